@@ -1,0 +1,4 @@
+pub mod Refusals
+pub mod Sizes
+pub mod Relatives
+pub mod Kinds

@@ -1,4 +1,4 @@
-"""The library's rules for sizes and splits, with its refusals, in exact arithmetic.
+"""The library's rules for sizes, splits and axes, with its refusals, in exact arithmetic.
 
 A second reading of the rules, which shares no code with the library: `answer(line)` gives what the
 program `replay` must answer to a line.
@@ -12,6 +12,10 @@ MOST = 1000  # the most rows, columns or breakpoints
 
 NOT_A_SIZE = 1  # a size or a count beyond its range, or not a number
 NOT_AN_AREA = 2  # corners out of order or beyond the limit
+NOT_AN_AXIS = 8  # ends out of order or beyond their limit, or too few or too many stations
+
+FARTHEST = 2000000  # the largest end of a whole axis, either way
+STATIONS = 200  # the most stations
 
 FLOAT = re.compile(r"[+-]?(inf|infinity|nan|([0-9]+\.?[0-9]*|\.[0-9]+)(e[+-]?[0-9]+)?)", re.I)
 
@@ -36,7 +40,8 @@ class Words:
     def next(self):
         if not self.words:
             raise Unread
-        return self.words.pop(0)
+        self.last = self.words.pop(0)
+        return self.last
 
     def expect(self, word):
         if self.next() != word:
@@ -234,7 +239,132 @@ def split_line(words, original):
     return " ".join([str(len(parts))] + [",".join(map(str, part.corners)) for part in parts])
 
 
-KINDS = {"size": size_line, "split": split_line}
+class Whole:
+    """The whole numbers lo to hi."""
+
+    def __init__(self, lo, hi):
+        if lo > hi or max(abs(lo), abs(hi)) > FARTHEST:
+            raise Refused(NOT_AN_AXIS)
+        self.lo, self.hi = lo, hi
+
+    def share(self, value):
+        """How far along the axis a value is."""
+        if self.lo == self.hi:
+            return Fraction(0)
+        return Fraction(min(max(value, self.lo), self.hi) - self.lo, self.hi - self.lo)
+
+    def keys(self, most):
+        steps = [k * 10**e for e in range(7) for k in (1, 2, 5)]
+        for step in steps:
+            found = range(-(-self.lo // step) * step, self.hi + 1, step)
+            if len(found) <= most:
+                return [str(k) for k in found]
+        return []
+
+
+class Stations:
+    """Stations 0 to n - 1; a value is `e` and the edge, or `c` and the centre, of a station."""
+
+    def __init__(self, n):
+        if not 1 <= n <= STATIONS:
+            raise Refused(NOT_AN_AXIS)
+        self.n = n
+
+    def share(self, value):
+        kind, i = value
+        if kind == "e":
+            return Fraction(min(i, self.n), self.n)
+        return Fraction(2 * min(i, self.n - 1) + 1, 2 * self.n)
+
+    def keys(self, most):
+        for step in range(1, self.n + 1):
+            found = range(0, self.n, step)
+            if len(found) <= most:
+                return ["S%d" % i for i in found]
+        return []
+
+
+class Layered:
+    """An axis under layers: `turned`, or a pair of values for a part."""
+
+    def __init__(self, axis, layers):
+        self.axis, self.layers = axis, layers
+
+    def place(self, value, a, b, depth=None):
+        for layer in self.layers[:depth]:
+            if layer == "turned":
+                a, b = b, a
+        return a + int((b - a) * self.axis.share(value))
+
+    def shown(self, a, b):
+        """By the outermost part, at the limits that it sees; the turns above it change only those."""
+        for depth in range(len(self.layers), 0, -1):
+            layer = self.layers[depth - 1]
+            if layer == "turned":
+                a, b = b, a
+                continue
+            ends = [self.place(value, a, b, depth - 1) for value in layer]
+            return min(ends), max(ends)
+        return min(a, b), max(a, b)
+
+
+def read_value(words, stations):
+    if not stations:
+        return words.i32()
+    kind = words.next()
+    if kind not in ("e", "c"):
+        raise Unread
+    return kind, words.u32()
+
+
+def read_axis(words):
+    """Answers whether it is an axis of stations, and a function that makes the axis."""
+    kind = words.next()
+    if kind == "whole":
+        lo, hi = words.i32(), words.i32()
+        make = lambda: Whole(lo, hi)
+    elif kind == "stations":
+        n = words.u32()
+        make = lambda: Stations(n)
+    else:
+        raise Unread
+    stations = kind == "stations"
+    layers = []
+    while words.peek() is not None:
+        if words.next() == "turned":
+            layers.append("turned")
+        elif words.last == "part":
+            layers.append((read_value(words, stations), read_value(words, stations)))
+        else:
+            raise Unread
+    return stations, lambda: Layered(make(), layers)
+
+
+def axis_line(words, original):
+    """What an axis answers; it is made first, so that its refusal comes first."""
+    name = words.next()
+    if name == "keys":
+        most = words.usize()
+        _, make = read_axis(words)
+        keys = make().axis.keys(most)
+        return " ".join([str(len(keys))] + keys)
+    if name not in ("place", "shown"):
+        raise Unread
+    limits = words.i32(), words.i32()
+    stations, value = False, None
+    if name == "place":
+        stations = words.peek() in ("e", "c")
+        value = read_value(words, stations)
+    kind, make = read_axis(words)
+    if name == "place" and kind != stations:
+        raise Unread
+    axis = make()
+    if max(map(abs, limits)) > LIMIT:
+        raise Refused(NOT_A_SIZE)
+    return str(axis.place(value, *limits)) if name == "place" else "%d %d" % axis.shown(*limits)
+
+
+KINDS = {"size": size_line, "split": split_line, "axis": axis_line}
 
 
 def answer(line, original=False):

@@ -52,18 +52,26 @@ impl Area {
         out[k] = self.even_cell(grid, k / grid.1, k % grid.1);
     }
 
-    // Writes all the cells and answers how many there are.
+    // Writes all the cells.
+    fn fill_evenly(&self, grid: (usize, usize), out: &mut [Area])
+        requires { ⌜ grid .0 * grid .1 ≤ length (now out) ⌝ }
+        ensures { λ _. ⌜ map corners (now (out .exit)) ≡ evenInto (corners (now (self .entry))) (grid .0) (grid .1) (map corners (now (out .entry))) ⌝ }
+    {
+        let n = grid.0 * grid.1;
+        for k in 0..n {
+            self.put_even(grid, out, k);
+        }
+    }
+
+    // Writes all the cells, which tile the area evenly, and answers how many there are.
     fn write_evenly(&self, grid: (usize, usize), out: &mut [Area]) -> usize
         requires { ⌜ grid .0 * grid .1 ≤ length (now out) ⌝ }
         ensures count { λ r. ⌜ r ≡ grid .0 * grid .1 ⌝ }
         ensures after { λ r. ⌜ map corners (now (out .exit)) ≡ evenInto (corners (now (self .entry))) (grid .0) (grid .1) (map corners (now (out .entry))) ⌝ }
         ensures law { λ r. ⌜ EvenTiling (corners (now (self .entry))) (grid .0) (grid .1) (take r (map corners (now (out .exit)))) ⌝ }
     {
-        let n = grid.0 * grid.1;
-        for k in 0..n {
-            self.put_even(grid, out, k);
-        }
-        n
+        self.fill_evenly(grid, out);
+        grid.0 * grid.1
     }
 
     /// Cuts the area into `grid.0` rows and `grid.1` columns and writes the cells to `out`, row by row.

@@ -1,5 +1,7 @@
-// Answers lines of questions about the layout library: `size ..` and `split ..`, one answer to a line.
+// Answers lines of questions about the layout library: `size ..`, `split ..` and `axis ..`, one answer to a line.
+
 mod fault;
+mod ranged;
 mod sizes;
 mod splits;
 mod words;
@@ -19,6 +21,7 @@ fn answer(heap: Global, line: &str) -> Result<String, Fault> {
     let all: Vec<&str> = line.split_whitespace().collect(heap)?;
     let mut words = Words::new(all.as_slice());
     match words.next()? {
+        "axis" => ranged::answer(heap, &mut words),
         "size" => sizes::answer(heap, &mut words),
         "split" => splits::answer(heap, &mut words),
         _ => Err(Fault::Unread),

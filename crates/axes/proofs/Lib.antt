@@ -1,0 +1,5 @@
+pub mod Centres
+pub mod Keys
+pub mod Lawful
+pub mod Moves
+pub mod Runs

@@ -1,0 +1,5 @@
+pub mod Anchors
+pub mod Shapes
+pub mod Marks
+pub mod Devices
+pub mod Passes

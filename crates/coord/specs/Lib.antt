@@ -1,0 +1,4 @@
+pub mod Hints
+pub mod Axis
+pub mod Layers
+pub mod Piles

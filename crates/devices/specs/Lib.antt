@@ -1,0 +1,5 @@
+pub mod Records
+pub mod Placed
+pub mod Lists
+pub mod Listed
+pub mod Countdowns

@@ -52,12 +52,12 @@ same_part f n up x j k p q a b =
 -- ---- a grid
 
 module _ (xs ys : ℕ → ℤ) (rs cols : ℕ) where
-  cell-is : (k : ℕ) → k < rs * cols → nth_cell (grid_of xs ys rs cols) k ≡ cell_on xs ys cols k
-  cell-is k h = get_or-map-range_with_len (cell_on xs ys cols) 0 (rs * cols) k k nowhere h (omega arith)
+  cell_is : (k : ℕ) → k < rs * cols → nth_cell (grid_of xs ys rs cols) k ≡ cell_on xs ys cols k
+  cell_is k h = get_or-map-range_with_len (cell_on xs ys cols) 0 (rs * cols) k k nowhere h (omega arith)
 
   cell_in : (r k : ℕ) → r < rs → k < cols → nth_cell (grid_of xs ys rs cols) (r * cols + k) ≡ cell_of xs ys r k
   cell_in r k p q =
-      cell-is (r * cols + k) (omega (arith, mul-add-lt r cols k rs p q))
+      cell_is (r * cols + k) (omega (arith, mul-add-lt r cols k rs p q))
       ∙ ap (λ i. cell_of xs ys i ((r * cols + k) % cols)) (div-mul-add r cols k q)
       ∙ ap (cell_of xs ys r) (mod-mul-add r cols k q)
 
@@ -71,8 +71,8 @@ module _ (xs ys : ℕ → ℤ) (rs cols : ℕ) where
     parted x y j lt h =
         let some : 0 < cols = search arith in
         let P : Corners → Type 0 = λ c. Inside c x y in
-        let i = subst P (cell-is j lt) h in
-        (mod_below j cols some, (div_below j cols rs some lt, (record { from = i.from-left; to = i.to-right }, record { from = i.from-top; to = i.to-bottom })))
+        let i = subst P (cell_is j lt) h in
+        (mod_below j cols some, (div_below j cols rs some lt, (record { from = i.from_left; to = i.to_right }, record { from = i.from_top; to = i.to_bottom })))
 
     once : (x y : ℤ) (k r : ℕ) → k < cols → r < rs → In xs x k → In ys y r → OnlyIn (grid_of xs ys rs cols) x y (r * cols + k)
     once x y k r p q a b =
@@ -80,7 +80,7 @@ module _ (xs ys : ℕ → ℤ) (rs cols : ℕ) where
         let n = long in
         record {
           within = omega (arith, mul-add-lt r cols k rs q p);
-          there = subst P (sym (cell_in r k q p)) (record { from-left = a.from; to-right = a.to; from-top = b.from; to-bottom = b.to });
+          there = subst P (sym (cell_in r k q p)) (record { from_left = a.from; to_right = a.to; from_top = b.from; to_bottom = b.to });
           only = λ j lt h.
               let i = parted x y j (omega arith) h in
               let e : j % cols ≡ k = same_part xs cols across x (j % cols) k i.0 p i.1.1.0 a in
@@ -89,13 +89,13 @@ module _ (xs ys : ℕ → ℤ) (rs cols : ℕ) where
               omega (arith, div-add-mod' j cols);
         }
 
-    pub grid-tiles : (c : Corners) → c.left ≡ xs 0 → c.right ≡ xs cols → c.top ≡ ys 0 → c.bottom ≡ ys rs → Tiles c (grid_of xs ys rs cols)
-    grid-tiles c l r t b = record {
+    pub grid_tiles : (c : Corners) → c.left ≡ xs 0 → c.right ≡ xs cols → c.top ≡ ys 0 → c.bottom ≡ ys rs → Tiles c (grid_of xs ys rs cols)
+    grid_tiles c l r t b = record {
       once = λ x y h.
-          let h0 = h.from-left in
-          let h1 = h.to-right in
-          let h2 = h.from-top in
-          let h3 = h.to-bottom in
+          let h0 = h.from_left in
+          let h1 = h.to_right in
+          let h2 = h.from_top in
+          let h3 = h.to_bottom in
           let i = found xs cols x (omega (arith, ints)) (omega (arith, ints)) in
           let j = found ys rs y (omega (arith, ints)) (omega (arith, ints)) in
           (j.0 * cols + i.0, once x y i.0 j.0 i.1.0 j.1.0 i.1.1 j.1.1);
@@ -108,7 +108,7 @@ module _ (xs ys : ℕ → ℤ) (rs cols : ℕ) where
           let b1 = later ys rs down (k / cols + 1) rs (omega (arith, i.1.0)) (omega arith) in
           let u = i.1.1.0 in
           let v = i.1.1.1 in
-          record { from-left = omega (arith, ints); to-right = omega (arith, ints); from-top = omega (arith, ints); to-bottom = omega (arith, ints) };
+          record { from_left = omega (arith, ints); to_right = omega (arith, ints); from_top = omega (arith, ints); to_bottom = omega (arith, ints) };
     }
 
 -- ---- even parts
@@ -135,18 +135,18 @@ one_more : (a : ℤ) (s n i j : ℕ) → i ≤ j
 one_more a s n i j h =
     let p = part_size a s n i in
     let q = part_size a s n j in
-    record { not-less = omega arith; by_one = omega arith }
+    record { not_less = omega arith; by_one = omega arith }
 
 module _ (c : Corners) (n cols : ℕ) where
-  pub evenly-tiles : c.left ≤ℤ c.right → c.top ≤ℤ c.bottom → 0 < n → 0 < cols → Tiles c (evenly c n cols)
-  evenly-tiles w h p q =
+  pub evenly_tiles : c.left ≤ℤ c.right → c.top ≤ℤ c.bottom → 0 < n → 0 < cols → Tiles c (evenly c n cols)
+  evenly_tiles w h p q =
       let across : (a : ℤ) (s m : ℕ) → 0 < m → a +ℤ pos (part s m m) ≡ a +ℤ pos s = λ a s m lt. ap (λ (k : ℕ). a +ℤ pos k) (part_all s m lt) in
-      grid-tiles (columns c cols) (rows c n) n cols (ascends c.left (width_of c) cols cols) (ascends c.top (height_of c) n n) c
+      grid_tiles (columns c cols) (rows c n) n cols (ascends c.left (width_of c) cols cols) (ascends c.top (height_of c) n n) c
       (omega (arith, ints)) (sym (across c.left (width_of c) cols q ∙ whole c.left c.right w))
       (omega (arith, ints)) (sym (across c.top (height_of c) n p ∙ whole c.top c.bottom h))
 
-  pub evenly-even : Even (evenly c n cols) n cols
-  evenly-even =
+  pub evenly_even : Even (evenly c n cols) n cols
+  evenly_even =
       let xs = columns c cols in
       let ys = rows c n in
       let one = cell_in xs ys n cols in
@@ -161,7 +161,7 @@ module _ (c : Corners) (n cols : ℕ) where
             subst P (sym (one r i (omega arith) p)) (subst Q (sym (one s j k q)) (one_more c.top (height_of c) n r s h));
       }
 
-  pub evenly-law : c.left ≤ℤ c.right → c.top ≤ℤ c.bottom → (cells : List Corners) → cells ≡ evenly c n cols → EvenTiling c n cols cells
-  evenly-law w h cells e =
+  pub evenly_law : c.left ≤ℤ c.right → c.top ≤ℤ c.bottom → (cells : List Corners) → cells ≡ evenly c n cols → EvenTiling c n cols cells
+  evenly_law w h cells e =
       let P : List Corners → Type 0 = EvenTiling c n cols in
-      subst P (sym e) (record { tiles = evenly-tiles w h; even = evenly-even })
+      subst P (sym e) (record { tiles = evenly_tiles w h; even = evenly_even })

@@ -4,10 +4,10 @@ use Rattle.area.specs.Corners.{Corners, width_of, height_of}
 
 -- the pixel in column x and row y is one of these
 pub record Inside (c : Corners) (x y : ℤ) : Type 0 where
-  pub from-left : c.left ≤ℤ x
-  pub to-right : x <ℤ c.right
-  pub from-top : c.top ≤ℤ y
-  pub to-bottom : y <ℤ c.bottom
+  pub from_left : c.left ≤ℤ x
+  pub to_right : x <ℤ c.right
+  pub from_top : c.top ≤ℤ y
+  pub to_bottom : y <ℤ c.bottom
 
 abbrev pub nowhere : Corners
 nowhere = record { left = pos 0; top = pos 0; right = pos 0; bottom = pos 0 }
@@ -29,7 +29,7 @@ pub record Tiles (c : Corners) (cells : List Corners) : Type 0 where
 
 -- m is n or one more
 pub record OneMore (m n : ℕ) : Type 0 where
-  pub not-less : n ≤ m
+  pub not_less : n ≤ m
   pub by_one : m ≤ n + 1
 
 -- the cell in row r and column k

@@ -84,13 +84,13 @@ module _ (lo : ℤ) (s c w : ℕ) (p : 0 < s) (e : lo +ℤ pos (c * s) ≡ pos w
   run_none : (u v : ℕ) → v ≡ u → [] ≡ run s c u v
   run_none u v h = let d : v - u ≡ 0 = omega arith in rw d refl
 
-  run-next : (u v u' v' : ℕ) (x : ℤ) (l : List ℤ) → u' ≡ u + 1 → v' ≡ v → u' ≤ v' → x ≡ nth_of s c u → l ≡ run s c u' v' → x ∷ l ≡ run s c u v
-  run-next u v u' v' x l f g h i j =
+  run_next : (u v u' v' : ℕ) (x : ℤ) (l : List ℤ) → u' ≡ u + 1 → v' ≡ v → u' ≤ v' → x ≡ nth_of s c u → l ≡ run s c u' v' → x ∷ l ≡ run s c u v
+  run_next u v u' v' x l f g h i j =
       let d : v - u ≡ suc (v - (u + 1)) = omega arith in
       rw (d, i, j, f, g) refl
 
-  run-same : (u v u' v' : ℕ) (l : List ℤ) → u' ≡ u → v' ≡ v → l ≡ run s c u' v' → l ≡ run s c u v
-  run-same u v u' v' l f g h = cc
+  run_same : (u v u' v' : ℕ) (l : List ℤ) → u' ≡ u → v' ≡ v → l ≡ run s c u' v' → l ≡ run s c u v
+  run_same u v u' v' l f g h = cc
 
   kept : (n j : ℕ) → filter (divides s) (map (λ k. lo +ℤ pos k) (range_with_len j n)) ≡ run s c (up_of s (w + j)) (up_of s (w + j + n))
   kept zero j =
@@ -107,10 +107,10 @@ module _ (lo : ℤ) (s c w : ℕ) (p : 0 < s) (e : lo +ℤ pos (c * s) ≡ pos w
       cond_both (divides s (lo +ℤ pos j)) ((lo +ℤ pos j) ∷ rest) rest (λ l. l ≡ run s c u v)
       (λ t.
       let m = up_multiple s (w + j) p (eqb-true ((w + j) % s) 0 (sym (here j) ∙ t)) in
-      run-next u v u' v' (lo +ℤ pos j) rest (ap (up_of s) a ∙ m.0) (ap (up_of s) b) (up_mono s (w + (j + 1)) n p) (omega (arith, ints, m.1)) (kept n (j + 1)))
+      run_next u v u' v' (lo +ℤ pos j) rest (ap (up_of s) a ∙ m.0) (ap (up_of s) b) (up_mono s (w + (j + 1)) n p) (omega (arith, ints, m.1)) (kept n (j + 1)))
       (λ t.
       let m = up_other s (w + j) p (eqb-false ((w + j) % s) 0 (sym (here j) ∙ t)) in
-      run-same u v u' v' rest (ap (up_of s) a ∙ m) (ap (up_of s) b) (kept n (j + 1)))
+      run_same u v u' v' rest (ap (up_of s) a ∙ m) (ap (up_of s) b) (kept n (j + 1)))
 
 -- the multiples of s from lo to hi, which are w and v after c steps
 pub multiples_are : (lo hi : ℤ) (s c w v : ℕ) → 0 < s → lo ≤ℤ hi → lo +ℤ pos (c * s) ≡ pos w → hi +ℤ pos (c * s) ≡ pos v → multiples s lo hi ≡ run s c (up_of s w) (up_of s (v + 1))

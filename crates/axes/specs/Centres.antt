@@ -23,21 +23,21 @@ station_few n m = few_by (range_with_len 1 n) m n
 pub step_next : (s j m n : ℕ) → m < up_of s n → centres_by (range_with_len s (suc j)) m n ≡ centres_by (range_with_len (s + 1) j) m n
 step_next s j m n h = cond-false (nat_le (up_of s n) m) (centres n s) (centres_by (range_with_len (s + 1) j) m n) (lt-leb (up_of s n) m h)
 
-pub step-here : (s j m n : ℕ) → up_of s n ≤ m → centres_by (range_with_len s (suc j)) m n ≡ centres n s
-step-here s j m n h = cond-true (nat_le (up_of s n) m) (centres n s) (centres_by (range_with_len (s + 1) j) m n) (le-leb (up_of s n) m h)
+pub step_here : (s j m n : ℕ) → up_of s n ≤ m → centres_by (range_with_len s (suc j)) m n ≡ centres n s
+step_here s j m n h = cond-true (nat_le (up_of s n) m) (centres n s) (centres_by (range_with_len (s + 1) j) m n) (le-leb (up_of s n) m h)
 
 -- ---- how many centres, and which is the k-th
 pub centres_count : (n s : ℕ) → length (centres n s) ≡ up_of s n
 centres_count n s = length-map-range_with_len (λ k. Centre (k * s)) 0 (up_of s n)
 
-centres-nth : (n s k : ℕ) → k < up_of s n → slice_get (centres n s) k ≡ Some (Centre (k * s))
-centres-nth n s k h =
+centres_nth : (n s k : ℕ) → k < up_of s n → slice_get (centres n s) k ≡ Some (Centre (k * s))
+centres_nth n s k h =
     slice_get-get_or (centres n s) k (Centre 0) (omega (arith, centres_count n s)) ∙ ap Some (get_or-map-range_with_len (λ k. Centre (k * s)) 0 (up_of s n) k k (Centre 0) h (omega arith))
 
-centres-past : (n s k : ℕ) → up_of s n ≤ k → slice_get (centres n s) k ≡ None
-centres-past n s k h = slice_get_past (centres n s) k (omega (arith, centres_count n s))
+centres_past : (n s k : ℕ) → up_of s n ≤ k → slice_get (centres n s) k ≡ None
+centres_past n s k h = slice_get_past (centres n s) k (omega (arith, centres_count n s))
 
 pub centres_kth : (n s k : ℕ) → cond (nat_lt k (up_of s n)) (Some (Centre (k * s))) None ≡ slice_get (centres n s) k
 centres_kth n s k =
     cond_both (nat_lt k (up_of s n)) (Some (Centre (k * s))) None (λ r. r ≡ slice_get (centres n s) k)
-    (λ t. sym (centres-nth n s k (ltb-true k (up_of s n) t))) (λ t. sym (centres-past n s k (ltb-false k (up_of s n) t)))
+    (λ t. sym (centres_nth n s k (ltb-true k (up_of s n) t))) (λ t. sym (centres_past n s k (ltb-false k (up_of s n) t)))

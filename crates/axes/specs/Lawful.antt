@@ -17,7 +17,7 @@ use Rattle.axes.specs.declared.kinds.AnyAxis.TheVariants as axis
 use Rattle.axes.specs.declared.kinds.AnyValue.TheVariants as value
 use Rattle.axes.specs.Centres.{station_few}
 use Rattle.axes.specs.Keys.{keys_few}
-use Rattle.axes.specs.Moves.{moved_inside, moved-mirror}
+use Rattle.axes.specs.Moves.{moved_inside, moved_mirror}
 
 -- ---- an axis that shows all from a to b
 
@@ -29,31 +29,31 @@ all_places x a b l h l' h' inside mirror = record {
   least = omega (arith, ints, clamps);
   ordered = omega (arith, ints, clamps);
   greatest = omega (arith, ints, clamps);
-  low-turned = omega (arith, ints, clamps);
-  high-turned = omega (arith, ints, clamps);
+  low_turned = omega (arith, ints, clamps);
+  high_turned = omega (arith, ints, clamps);
 }
 
 -- ---- whole numbers
 
 module _ (lo hi v a b : ℤ) (ordered : lo ≤ℤ hi) where
-  inside-by : (t : Bool) → Between a b (cond t (moved_by a b (held_to lo hi v -ℤ lo) (hi -ℤ lo)) a)
-  inside-by true = moved_inside a b (held_to lo hi v -ℤ lo) (hi -ℤ lo) (omega (arith, ints, clamps)) (omega (arith, ints, clamps))
-  inside-by false = record { least = omega (arith, ints, clamps); most = omega (arith, ints, clamps) }
+  inside_by : (t : Bool) → Between a b (cond t (moved_by a b (held_to lo hi v -ℤ lo) (hi -ℤ lo)) a)
+  inside_by true = moved_inside a b (held_to lo hi v -ℤ lo) (hi -ℤ lo) (omega (arith, ints, clamps)) (omega (arith, ints, clamps))
+  inside_by false = record { least = omega (arith, ints, clamps); most = omega (arith, ints, clamps) }
 
-  mirror-by : (t : Bool) → cond t (moved_by a b (held_to lo hi v -ℤ lo) (hi -ℤ lo)) a +ℤ cond t (moved_by b a (held_to lo hi v -ℤ lo) (hi -ℤ lo)) b ≡ a +ℤ b
-  mirror-by true = moved-mirror a b (held_to lo hi v -ℤ lo) (hi -ℤ lo) (omega (arith, ints, clamps)) (omega (arith, ints, clamps))
-  mirror-by false = refl
+  mirror_by : (t : Bool) → cond t (moved_by a b (held_to lo hi v -ℤ lo) (hi -ℤ lo)) a +ℤ cond t (moved_by b a (held_to lo hi v -ℤ lo) (hi -ℤ lo)) b ≡ a +ℤ b
+  mirror_by true = moved_mirror a b (held_to lo hi v -ℤ lo) (hi -ℤ lo) (omega (arith, ints, clamps)) (omega (arith, ints, clamps))
+  mirror_by false = refl
 
-  pub whole-inside : Between a b (whole_place_of lo hi v a b)
-  whole-inside = inside-by (int_lt lo hi)
+  pub whole_inside : Between a b (whole_place_of lo hi v a b)
+  whole_inside = inside_by (int_lt lo hi)
 
-  whole-mirror : whole_place_of lo hi v a b +ℤ whole_place_of lo hi v b a ≡ a +ℤ b
-  whole-mirror = mirror-by (int_lt lo hi)
+  whole_mirror : whole_place_of lo hi v a b +ℤ whole_place_of lo hi v b a ≡ a +ℤ b
+  whole_mirror = mirror_by (int_lt lo hi)
 
 pub whole_lawful : (lo hi : ℤ) → lo ≤ℤ hi → Lawful (whole_axis lo hi)
 whole_lawful lo hi o = record {
   few = λ h. keys_few lo hi h.most;
-  places = λ a b i j. all_places (whole_axis lo hi) a b refl refl refl refl (λ v. whole-inside lo hi v a b o) (λ v. whole-mirror lo hi v a b o);
+  places = λ a b i j. all_places (whole_axis lo hi) a b refl refl refl refl (λ v. whole_inside lo hi v a b o) (λ v. whole_mirror lo hi v a b o);
 }
 
 -- ---- stations
@@ -63,8 +63,8 @@ station_inside n (Edge i) a b h = moved_inside a b (pos (min i n)) (pos n) (omeg
 station_inside n (Centre i) a b h = moved_inside a b (pos (2 * min i (n - 1) + 1)) (pos (2 * n)) (omega (arith, ints)) (omega (arith, ints))
 
 station_mirror : (n : ℕ) (v : Station) (a b : ℤ) → 0 < n → station_place_of n v a b +ℤ station_place_of n v b a ≡ a +ℤ b
-station_mirror n (Edge i) a b h = moved-mirror a b (pos (min i n)) (pos n) (omega (arith, ints)) (omega (arith, ints))
-station_mirror n (Centre i) a b h = moved-mirror a b (pos (2 * min i (n - 1) + 1)) (pos (2 * n)) (omega (arith, ints)) (omega (arith, ints))
+station_mirror n (Edge i) a b h = moved_mirror a b (pos (min i n)) (pos n) (omega (arith, ints)) (omega (arith, ints))
+station_mirror n (Centre i) a b h = moved_mirror a b (pos (2 * min i (n - 1) + 1)) (pos (2 * n)) (omega (arith, ints)) (omega (arith, ints))
 
 pub station_lawful : (n : ℕ) → 0 < n → Lawful (station_axis n)
 station_lawful n p = record {
@@ -85,8 +85,8 @@ viewed_lawful read make x l = record {
         least = p.least;
         ordered = p.ordered;
         greatest = p.greatest;
-        low-turned = p.low-turned;
-        high-turned = p.high-turned;
+        low_turned = p.low_turned;
+        high_turned = p.high_turned;
       };
 }
 

@@ -9,8 +9,8 @@ use Rattle.std.proofs.lemmas.Nat.{mul-le}
 use Rattle.coord.specs.Axis.{Between}
 use Rattle.axes.specs.Shares.{moved_by}
 
-below-run : (n u d : ℕ) → u ≤ d → n * u / d ≤ n
-below-run n u d h = div-le_of_le-mul d (omega (arith, mul-le n u n d (omega arith) h))
+below_run : (n u d : ℕ) → u ≤ d → n * u / d ≤ n
+below_run n u d h = div-le_of_le-mul d (omega (arith, mul-le n u n d (omega arith) h))
 
 -- cut toward zero, a quotient is odd
 share_neg : (m d : ℕ) → int_div (neg_ℤ (pos m)) (pos d) ≡ neg_ℤ (pos (m / d))
@@ -23,17 +23,17 @@ share_odd (pos (suc n)) u d = share_neg (suc n * u) d
 share_odd (negsuc n) u d = sym (ap neg_ℤ (share_neg (suc n * u) d) ∙ neg_ℤ-neg_ℤ (pos (suc n * u / d)))
 
 -- a share is no longer than the run, and goes the same way
-share-within : (x : ℤ) (u d : ℕ) → u ≤ d → Between (pos 0) x (int_div (x *ℤ pos u) (pos d))
-share-within (pos n) u d h =
-    let k = below-run n u d h in
+share_within : (x : ℤ) (u d : ℕ) → u ≤ d → Between (pos 0) x (int_div (x *ℤ pos u) (pos d))
+share_within (pos n) u d h =
+    let k = below_run n u d h in
     record { least = omega (arith, ints, clamps); most = omega (arith, ints, clamps) }
-share-within (negsuc n) u d h =
-    let k = below-run (suc n) u d h in
+share_within (negsuc n) u d h =
+    let k = below_run (suc n) u d h in
     let e = share_neg (suc n * u) d in
     record { least = rw e (omega (arith, ints, clamps)); most = rw e (omega (arith, ints, clamps)) }
 
 pub share_bounds : (x p w : ℤ) → pos 0 ≤ℤ p → p ≤ℤ w → Between (pos 0) x (int_div (x *ℤ p) w)
-share_bounds x (pos u) (pos d) h k = share-within x u d (omega (arith, ints))
+share_bounds x (pos u) (pos d) h k = share_within x u d (omega (arith, ints))
 share_bounds x (pos u) (negsuc d) h k = absurd (omega (arith, ints))
 share_bounds x (negsuc u) w h k = absurd (omega (arith, ints))
 
@@ -54,8 +54,8 @@ module _ (a b p w : ℤ) (h : pos 0 ≤ℤ p) (k : p ≤ℤ w) where
       let n = share_bounds (b -ℤ a) p w h k in
       record { least = omega (arith, ints, clamps); most = omega (arith, ints, clamps) }
 
-  pub moved-mirror : moved_by a b p w +ℤ moved_by b a p w ≡ a +ℤ b
-  moved-mirror =
+  pub moved_mirror : moved_by a b p w +ℤ moved_by b a p w ≡ a +ℤ b
+  moved_mirror =
       let e : a -ℤ b ≡ neg_ℤ (b -ℤ a) = omega (arith, ints) in
       let o : int_div ((a -ℤ b) *ℤ p) w ≡ neg_ℤ (int_div ((b -ℤ a) *ℤ p) w) = rw e (share_mirror (b -ℤ a) p w h k) in
       omega (arith, ints)

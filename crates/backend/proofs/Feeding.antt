@@ -16,20 +16,20 @@ abbrev Ran : Answers → ℕ → List SMark → Result ℕ Refusal → Type 0
 Ran f a ms (Ok k) = (k ≡ a + length ms) × ((taken f ms ≡ ms) × ((ns : List SMark) → taken f (ms ++ ns) ≡ ms ++ taken (later f ms) ns))
 Ran f a ms (Err e) = (ns : List SMark) → taken f (ms ++ ns) ≡ taken f ms
 
-ran-step : (o : Option ℕ) (f : Answers) (a : ℕ) (m : SMark) (ms : List SMark) (rest : Result ℕ Refusal) → f [] m ≡ o →
+ran_step : (o : Option ℕ) (f : Answers) (a : ℕ) (m : SMark) (ms : List SMark) (rest : Result ℕ Refusal) → f [] m ≡ o →
     Ran (later f (m ∷ [])) (a + 1) ms rest → Ran f a (m ∷ ms) (step o a rest)
 unfolding run taken
-ran-step None f a m ms (Ok k) h r =
+ran_step None f a m ms (Ok k) h r =
     (omega arith, (rw h (ap (λ l. m ∷ l) r.1.0), λ ns. rw h (ap (λ l. m ∷ l) (r.1.1 ns))))
-ran-step None f a m ms (Err e) h r = λ ns. rw h (ap (λ l. m ∷ l) (r ns))
-ran-step (Some n) f a m ms rest h r = λ ns. rw h
+ran_step None f a m ms (Err e) h r = λ ns. rw h (ap (λ l. m ∷ l) (r ns))
+ran_step (Some n) f a m ms rest h r = λ ns. rw h
 
 ran : (f : Answers) (a : ℕ) (ms : List SMark) → Ran f a ms (run f a ms)
 unfolding run taken
 ran f a [] = (omega arith, (refl, λ ns. refl))
 ran f a (m ∷ ms) =
     let next = later f (m ∷ []) in
-    ran-step (f [] m) f a m ms (run next (a + 1) ms) refl (ran next (a + 1) ms)
+    ran_step (f [] m) f a m ms (run next (a + 1) ms) refl (ran next (a + 1) ms)
 
 -- a pass of two lists is a pass of the second where the first has ended
 abbrev on : Answers → List SMark → Result ℕ Refusal → Result ℕ Refusal

@@ -26,16 +26,16 @@ stops_more f a m ms i n h s =
     let k : a + 1 + i ≡ a + suc i = omega arith in
     (omega arith, (λ j lt. takes_more f m ms i h s.1.0 j (omega arith), s.1.1, rw h (s.1.2 ∙ ap (λ c. Err (Device n c)) k), rw h (ap (λ l. m ∷ l) s.1.3)))
 
-stops-here : (f : Answers) (a : ℕ) (m : SMark) (ms : List SMark) (n : ℕ) → f [] m ≡ Some n → Stops f a (m ∷ ms) 0 n
+stops_here : (f : Answers) (a : ℕ) (m : SMark) (ms : List SMark) (n : ℕ) → f [] m ≡ Some n → Stops f a (m ∷ ms) 0 n
 unfolding run taken
-stops-here f a m ms n h =
+stops_here f a m ms n h =
     let k : a ≡ a + 0 = omega arith in
     (omega arith, (λ j lt. grind arith, h, rw h (ap (λ c. Err (Device n c)) k), rw h))
 
 ends_step : (o : Option ℕ) (f : Answers) (a : ℕ) (m : SMark) (ms : List SMark) → f [] m ≡ o → Ends (later f (m ∷ [])) (a + 1) ms → Ends f a (m ∷ ms)
 ends_step None f a m ms h (inl g) = inl (goes_more f a m ms h g)
 ends_step None f a m ms h (inr s) = inr (suc s.0, (s.1.0, stops_more f a m ms s.0 s.1.0 h s.1.1))
-ends_step (Some n) f a m ms h e = inr (0, (n, stops-here f a m ms n h))
+ends_step (Some n) f a m ms h e = inr (0, (n, stops_here f a m ms n h))
 
 pub every_pass : EveryPass
 unfolding run taken

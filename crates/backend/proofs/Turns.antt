@@ -58,9 +58,9 @@ pub fed_all : {V : Type 0} {f : V → List SMark} {vs : List V} {k a p : ℕ} {d
 fed_all {vs = vs} {k} h is = rw (take_whole vs k is) at h.fed
 
 -- one mark for each value, by its place
-pub each-one : {V W : Type 0} (f : W → SMark) (g : V → W) (vs : List V) → each (λ v. f (g v) ∷ []) vs ≡ map f (map g vs)
-each-one f g [] = refl
-each-one f g (v ∷ vs) = ap (λ l. f (g v) ∷ l) (each-one f g vs)
+pub each_one : {V W : Type 0} (f : W → SMark) (g : V → W) (vs : List V) → each (λ v. f (g v) ∷ []) vs ≡ map f (map g vs)
+each_one f g [] = refl
+each_one f g (v ∷ vs) = ap (λ l. f (g v) ∷ l) (each_one f g vs)
 
 -- at most n marks for each of k values
 few_each : {V : Type 0} (f : V → List SMark) (n : ℕ) → ((v : V) → length (f v) ≤ n) → (k : ℕ) (vs : List V) → length (each f (take k vs)) ≤ n * k

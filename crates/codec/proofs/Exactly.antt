@@ -98,8 +98,8 @@ header_by bs h =
     let t : get_or bs 4 0 ≡ 1 = grind (arith, nat_tests) in
     cc
 
-header-here : (rest : List ℕ) → headed (header ++ rest) ≡ true
-header-here rest = grind (arith, nat_tests)
+header_here : (rest : List ℕ) → headed (header ++ rest) ≡ true
+header_here rest = grind (arith, nat_tests)
 
 whole_by : (bs : List ℕ) (r : Result (List SMark) ℕ) → bs ≡ header ++ drop 5 bs → RightFrom 5 (drop 5 bs) r → Right bs r
 whole_by bs (Ok ms) e h = (h.0, e ∙ ap (λ l. header ++ l) h.1)
@@ -116,7 +116,7 @@ whole_by bs (Err p) e h =
 right_read : (b : Bool) (bs : List ℕ) → headed bs ≡ b → Bytes bs → Right bs (cond b (scan 5 0 (drop 5 bs)) (Err 0))
 right_read true bs e f = whole_by bs _ (header_by bs e) (right_from (length (drop 5 bs)) 5 (drop 5 bs) (omega arith) (bytes_drop bs 5 f))
 right_read false bs e f =
-    inl (refl, λ rest is. let t : headed bs ≡ true = ap headed is ∙ header-here rest in let z : ◌≡◌ {A = Bool} true false = sym t ∙ e in grind (arith, nat_tests))
+    inl (refl, λ rest is. let t : headed bs ≡ true = ap headed is ∙ header_here rest in let z : ◌≡◌ {A = Bool} true false = sym t ∙ e in grind (arith, nat_tests))
 
 pub exact : (bs : List ℕ) → Bytes bs → Exact bs
 exact bs f = record { right = right_read (headed bs) bs refl f; back = λ ms r is. ap read is ∙ read-stream ms r }

@@ -77,8 +77,8 @@ pub one : (bs : List ℕ) (k j : ℕ) → j ≡ k + 1 → k < length bs → drop
 one bs k j e h = rw e (drop_more bs k 0 h)
 
 -- four bytes are those of their number
-pub int-drop : (bs : List ℕ) (k : ℕ) → Bytes bs → k + 4 ≤ length bs → drop k bs ≡ be32 (int bs k) ++ drop (k + 4) bs
-int-drop bs k f h =
+pub int_drop : (bs : List ℕ) (k : ℕ) → Bytes bs → k + 4 ≤ length bs → drop k bs ≡ be32 (int bs k) ++ drop (k + 4) bs
+int_drop bs k f h =
     let a = one bs k (k + 1) refl (omega arith) in
     let b = one bs (k + 1) (k + 2) (omega arith) (omega arith) in
     let c = one bs (k + 2) (k + 3) (omega arith) (omega arith) in
@@ -146,10 +146,10 @@ line_only : (bs : List ℕ) (m : SMark) → Bytes bs → line_in bs ≡ Some m �
 line_only bs m f e =
     let c = line_in_lem bs m e in
     let n = c.0 in
-    let p = int-drop bs 0 f (omega arith) in
-    let q = int-drop bs 4 f (omega arith) in
-    let r = int-drop bs 8 f (omega arith) in
-    let s = int-drop bs 12 f (omega arith) in
+    let p = int_drop bs 0 f (omega arith) in
+    let q = int_drop bs 4 f (omega arith) in
+    let r = int_drop bs 8 f (omega arith) in
+    let s = int_drop bs 12 f (omega arith) in
     let t = one bs 16 17 refl (omega arith) in
     let z : 1 ∷ bs ≡ encode (line (int bs 0) (int bs 4) (int bs 8) (int bs 12) (get_or bs 16 0)) ++ drop 17 bs = cc in
     rw (← c.1.1) z
@@ -161,8 +161,8 @@ text_only bs m f e =
     let n = get_or bs 12 0 in
     let bytes = take n (drop 13 bs) in
     let l : length bytes ≡ n = length-take-le n (drop 13 bs) (simp length-drop (omega (arith, h))) in
-    let p = int-drop bs 0 f (omega arith) in
-    let q = int-drop bs 4 f (omega arith) in
+    let p = int_drop bs 0 f (omega arith) in
+    let q = int_drop bs 4 f (omega arith) in
     let a = one bs 8 9 refl (omega arith) in
     let t = one bs 9 10 refl (omega arith) in
     let o = one bs 10 11 refl (omega arith) in

@@ -5,21 +5,21 @@ use Rattle.backend.specs.Marks.{SMark, line, text, end}
 use Rattle.codec.specs.Format.{be32, encode}
 use Rattle.codec.specs.Reading.{int}
 use Rattle.codec.specs.Exact.{NoMarkIn}
-use Rattle.codec.proofs.Firsts.{Bytes, int-drop, one}
+use Rattle.codec.proofs.Firsts.{Bytes, int_drop, one}
 
 -- what is left past the first k, as the checker reads it
 rest_of : (xs : List ℕ) (k : ℕ) → drop k xs ≡ take (length xs - k) (drop k xs)
 rest_of xs k = sym (take_rest xs k)
 
 pub read_four : (xs : List ℕ) (z : ℤ) → Bytes xs → 4 ≤ length xs → z ≡ int xs 0 → xs ≡ be32 z ++ take (length xs - 4) (drop 4 xs)
-read_four xs z f h e = int-drop xs 0 f h ∙ ap (λ l. be32 (int xs 0) ++ l) (rest_of xs 4) ∙ ap (λ v. be32 v ++ take (length xs - 4) (drop 4 xs)) (sym e)
+read_four xs z f h e = int_drop xs 0 f h ∙ ap (λ l. be32 (int xs 0) ++ l) (rest_of xs 4) ∙ ap (λ v. be32 v ++ take (length xs - 4) (drop 4 xs)) (sym e)
 
-pub first-is : (xs : List ℕ) (k : ℕ) → 1 ≤ length xs → get_or xs 0 0 ≡ k → xs ≡ k ∷ take (length xs - 1) (drop 1 xs)
-first-is xs k h e = one xs 0 1 refl (omega arith) ∙ ap (λ a. a ∷ drop 1 xs) e ∙ ap (λ l. k ∷ l) (rest_of xs 1)
+pub first_is : (xs : List ℕ) (k : ℕ) → 1 ≤ length xs → get_or xs 0 0 ≡ k → xs ≡ k ∷ take (length xs - 1) (drop 1 xs)
+first_is xs k h e = one xs 0 1 refl (omega arith) ∙ ap (λ a. a ∷ drop 1 xs) e ∙ ap (λ l. k ∷ l) (rest_of xs 1)
 
 pub line_read : (bs : List ℕ) (x0 y0 x1 y1 : ℤ) (r0 r1 r2 r3 : List ℕ) → bs ≡ be32 x0 ++ r0 → r0 ≡ be32 y0 ++ r1 → r1 ≡ be32 x1 ++ r2 → r2 ≡ be32 y1 ++ r3 → 1 ≤ length r3 →
     1 ∷ bs ≡ encode (line x0 y0 x1 y1 (get_or r3 0 0)) ++ take (length r3 - 1) (drop 1 r3)
-line_read bs x0 y0 x1 y1 r0 r1 r2 r3 p q r s h = let e = first-is r3 (get_or r3 0 0) h refl in cc
+line_read bs x0 y0 x1 y1 r0 r1 r2 r3 p q r s h = let e = first_is r3 (get_or r3 0 0) h refl in cc
 
 five : (xs : List ℕ) → 5 ≤ length xs → xs ≡ get_or xs 0 0 ∷ get_or xs 1 0 ∷ get_or xs 2 0 ∷ get_or xs 3 0 ∷ get_or xs 4 0 ∷ take (length xs - 5) (drop 5 xs)
 five xs h =

@@ -13,16 +13,16 @@ encode_some (text x y anchor turn font ink bytes) = omega arith
 encode_some end = omega arith
 
 -- the bytes of a mark before are passed over
-scan-past : (place k : ℕ) (bs : List ℕ) → k ≤ length bs → scan place k bs ≡ scan (place + k) 0 (drop k bs)
+scan_past : (place k : ℕ) (bs : List ℕ) → k ≤ length bs → scan place k bs ≡ scan (place + k) 0 (drop k bs)
 unfolding scan
-scan-past place zero [] h = refl
-scan-past place (suc k) [] h = absurd (omega arith)
-scan-past place zero (b ∷ bs) h = let e : place ≡ place + 0 = omega arith in ap (λ p. scan p 0 (b ∷ bs)) e
-scan-past place (suc k) (b ∷ bs) h = let e : place + 1 + k ≡ place + suc k = omega arith in scan-past (place + 1) k bs (omega arith) ∙ ap (λ p. scan p 0 (drop k bs)) e
+scan_past place zero [] h = refl
+scan_past place (suc k) [] h = absurd (omega arith)
+scan_past place zero (b ∷ bs) h = let e : place ≡ place + 0 = omega arith in ap (λ p. scan p 0 (b ∷ bs)) e
+scan_past place (suc k) (b ∷ bs) h = let e : place + 1 + k ≡ place + suc k = omega arith in scan_past (place + 1) k bs (omega arith) ∙ ap (λ p. scan p 0 (drop k bs)) e
 
-drop-one : (n b : ℕ) (bs : List ℕ) → 1 ≤ n → drop (n - 1) bs ≡ drop n (b ∷ bs)
-drop-one zero b bs h = absurd (omega arith)
-drop-one (suc n) b bs h = let e : suc n - 1 ≡ n = omega arith in rw e
+drop_one : (n b : ℕ) (bs : List ℕ) → 1 ≤ n → drop (n - 1) bs ≡ drop n (b ∷ bs)
+drop_one zero b bs h = absurd (omega arith)
+drop_one (suc n) b bs h = let e : suc n - 1 ≡ n = omega arith in rw e
 
 -- one mark, and those that follow
 pub scan_mark : (place : ℕ) (bs : List ℕ) (m : SMark) → first bs ≡ Some m → length (encode m) ≤ length bs →
@@ -32,7 +32,7 @@ scan_mark place [] m e h = let i = encode_some m in absurd (omega arith)
 scan_mark place (b ∷ bs) m e h =
     let i = encode_some m in
     let p : place + 1 + (length (encode m) - 1) ≡ place + length (encode m) = omega arith in
-    rw (e, scan) (ap (onto m) (scan-past (place + 1) (length (encode m) - 1) bs (omega arith) ∙ ap (λ q. scan q 0 (drop (length (encode m) - 1) bs)) p ∙ ap (scan (place + length (encode m)) 0) (drop-one (length (encode m)) b bs i)))
+    rw (e, scan) (ap (onto m) (scan_past (place + 1) (length (encode m) - 1) bs (omega arith) ∙ ap (λ q. scan q 0 (drop (length (encode m) - 1) bs)) p ∙ ap (scan (place + length (encode m)) 0) (drop_one (length (encode m)) b bs i)))
 
 pub scan_none : (place b : ℕ) (bs : List ℕ) → first (b ∷ bs) ≡ None → scan place 0 (b ∷ bs) ≡ Err place
 unfolding scan

@@ -33,8 +33,8 @@ pub record Places {V : Type 0} (x : Axis V) (a b : ℤ) : Type 0 where
   pub least : int_min a b ≤ℤ x.low a b
   pub ordered : x.low a b ≤ℤ x.high a b
   pub greatest : x.high a b ≤ℤ int_max a b
-  pub low-turned : x.low b a ≡ a +ℤ b -ℤ x.high a b
-  pub high-turned : x.high b a ≡ a +ℤ b -ℤ x.low a b
+  pub low_turned : x.low b a ≡ a +ℤ b -ℤ x.high a b
+  pub high_turned : x.high b a ≡ a +ℤ b -ℤ x.low a b
 
 -- key values are no more than were asked for, and all limits that are taken have their places so
 pub record Lawful {V : Type 0} (x : Axis V) : Type 0 where

@@ -12,8 +12,8 @@ turned_places x a b p q = record {
   least = omega (arith, ints, clamps);
   ordered = q.ordered;
   greatest = omega (arith, ints, clamps);
-  low-turned = omega (arith, ints);
-  high-turned = omega (arith, ints);
+  low_turned = omega (arith, ints);
+  high_turned = omega (arith, ints);
 }
 
 part_places : {V : Type 0} (v w : V) (x : Axis V) (a b : ℤ) → Places x a b → Places (part_axis v w x) a b
@@ -28,8 +28,8 @@ part_places v w x a b p =
       least = omega (arith, ints, clamps);
       ordered = omega (arith, ints, clamps);
       greatest = omega (arith, ints, clamps);
-      low-turned = omega (arith, ints, clamps);
-      high-turned = omega (arith, ints, clamps);
+      low_turned = omega (arith, ints, clamps);
+      high_turned = omega (arith, ints, clamps);
     }
 
 pub turned_lawful : {V : Type 0} (x : Axis V) → Lawful x → Lawful (turned_axis x)

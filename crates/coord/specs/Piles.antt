@@ -17,7 +17,7 @@ piled (shows v w ∷ ls) x = part_axis v w (piled ls x)
 
 -- y is x with the layer l on top, whatever pile x is
 pub record LaidOn {V : Type 0} (l : Layer V) (x y : Axis V) : Type 0 where
-  pub on-top : (ls : List (Layer V)) (z : Axis V) → Same x (piled ls z) → Same y (piled (l ∷ ls) z)
+  pub on_top : (ls : List (Layer V)) (z : Axis V) → Same x (piled ls z) → Same y (piled (l ∷ ls) z)
 
 -- ---- what a pile comes to: turned or not, and the part laid on last
 

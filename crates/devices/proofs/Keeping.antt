@@ -60,11 +60,11 @@ same_marks n t t' (r ∷ rs) e h =
     cc
 
 -- after bytes were placed
-placed-front : (t : List ℕ) (at : ℕ) (s : List ℕ) → at ≤ length t → take at (placed t at s) ≡ take at t
-placed-front t at s h = take_at (take at t) (s ++ drop (at + length s) t) at (length-take-le at t h)
+placed_front : (t : List ℕ) (at : ℕ) (s : List ℕ) → at ≤ length t → take at (placed t at s) ≡ take at t
+placed_front t at s h = take_at (take at t) (s ++ drop (at + length s) t) at (length-take-le at t h)
 
-placed-part : (t : List ℕ) (at : ℕ) (s : List ℕ) → at ≤ length t → take (length s) (drop at (placed t at s)) ≡ s
-placed-part t at s h = rw (drop_at (take at t) (s ++ drop (at + length s) t) at (length-take-le at t h)) (take_at s (drop (at + length s) t) (length s) refl)
+placed_part : (t : List ℕ) (at : ℕ) (s : List ℕ) → at ≤ length t → take (length s) (drop at (placed t at s)) ≡ s
+placed_part t at s h = rw (drop_at (take at t) (s ++ drop (at + length s) t) at (length-take-le at t h)) (take_at s (drop (at + length s) t) (length s) refl)
 
 pub placed-length : (t : List ℕ) (at : ℕ) (s : List ℕ) → at + length s ≤ length t → length (placed t at s) ≡ length t
 placed-length t at s h =
@@ -75,7 +75,7 @@ placed-length t at s h =
 -- the new record reads as the shape
 new_mark : (t : List ℕ) (at : ℕ) (s : Shape) → at ≤ length t → mark_in (placed t at (text_in s)) (record_from s at (length (text_in s))) ≡ shape_value s
 new_mark t at (shape.Line s) h = refl
-new_mark t at (shape.Text l b) h = rw (placed-part t at b.now h)
+new_mark t at (shape.Text l b) h = rw (placed_part t at b.now h)
 new_mark t at shape.End h = refl
 
 marks_more : (h : Held) (s : Shape) → h.used < length h.records → h.filled ≤ length h.text → kept h.filled (take h.used h.records) ≡ true →
@@ -84,7 +84,7 @@ marks_more h s lt le k =
     let r = record_from s h.filled (length (text_in s)) in
     let t' = placed h.text h.filled (text_in s) in
     let rs = take h.used h.records in
-    let old : map (mark_in t') rs ≡ map (mark_in h.text) rs = same_marks h.filled h.text t' rs (placed-front h.text h.filled (text_in s) le) k in
+    let old : map (mark_in t') rs ≡ map (mark_in h.text) rs = same_marks h.filled h.text t' rs (placed_front h.text h.filled (text_in s) le) k in
     rw (take_more_set h.records h.used r lt, map_push (mark_in t') rs r, old, new_mark h.text h.filled s le)
 
 bytes_of : (s : Shape) → bytes_in (shape_value s) ≡ length (text_in s)
@@ -127,19 +127,19 @@ verdict_room free left n e = (grind (arith, nat_tests), grind (arith, nat_tests)
 pub marks_length : (t : List ℕ) (u : ℕ) (rs : List Record) → u ≤ length rs → length (map (mark_in t) (take u rs)) ≡ u
 marks_length t u rs h = length-map (take u rs) (mark_in t) ∙ length-take-le u rs h
 
-kept-each : (n i : ℕ) (rs : List Record) (d : Record) → kept n rs ≡ true → i < length rs → inside n (get_or rs i d) ≡ true
-kept-each n i [] d h lt = grind arith
-kept-each n zero (r ∷ rs) d h lt = grind (arith, nat_tests)
-kept-each n (suc i) (r ∷ rs) d h lt =
+kept_each : (n i : ℕ) (rs : List Record) (d : Record) → kept n rs ≡ true → i < length rs → inside n (get_or rs i d) ≡ true
+kept_each n i [] d h lt = grind arith
+kept_each n zero (r ∷ rs) d h lt = grind (arith, nat_tests)
+kept_each n (suc i) (r ∷ rs) d h lt =
     let b : kept n rs ≡ true = grind (arith, nat_tests) in
-    kept-each n i rs d b (omega arith)
+    kept_each n i rs d b (omega arith)
 
 -- the i-th of the u records that are used
 kept_at : (n u i : ℕ) (rs : List Record) (r : Record) → kept n (take u rs) ≡ true → u ≤ length rs → i < u → (d : Record) → get_or rs i d ≡ r → inside n r ≡ true
 kept_at n u i rs r h le lt d is =
     let l : i < length (take u rs) = omega (arith, length-take-le u rs le) in
     let e : get_or (take u rs) i d ≡ r = get_or-take u rs i d lt ∙ is in
-    subst (λ q. inside n q ≡ true) e (kept-each n i (take u rs) d h l)
+    subst (λ q. inside n q ≡ true) e (kept_each n i (take u rs) d h l)
 
 pub mark_at : (t : List ℕ) (u i : ℕ) (rs : List Record) (r : Record) → u ≤ length rs → i < u → (d : Record) → get_or rs i d ≡ r → slice_get (map (mark_in t) (take u rs)) i ≡ Some (mark_in t r)
 mark_at t u i rs r le lt d is =

@@ -48,11 +48,11 @@ by_half = record {
 
 module _ {way : ℕ → ℕ → ℕ} {b : ℕ} {g : ℤ} (l : Limit way b g) where
   -- the size passes the limit's test exactly if it is under the limit
-  size-under : (m : ℕ) (e : ℤ) → ltb (m * up e * down g) (b * up g * down e) ≡ true → way (m * up e) (down e) ≤ 30000
-  size-under m e h = l.under (m * up e) (down e) (down_pos e) (ltb-true _ _ h)
+  size_under : (m : ℕ) (e : ℤ) → ltb (m * up e * down g) (b * up g * down e) ≡ true → way (m * up e) (down e) ≤ 30000
+  size_under m e h = l.under (m * up e) (down e) (down_pos e) (ltb-true _ _ h)
 
-  size-over : (m : ℕ) (e : ℤ) → ltb (m * up e * down g) (b * up g * down e) ≡ false → 30000 < way (m * up e) (down e)
-  size-over m e h = l.over (m * up e) (down e) (down_pos e) (ltb-false _ _ h)
+  size_over : (m : ℕ) (e : ℤ) → ltb (m * up e * down g) (b * up g * down e) ≡ false → 30000 < way (m * up e) (down e)
+  size_over m e h = l.over (m * up e) (down e) (down_pos e) (ltb-false _ _ h)
 
   -- below true a false b, and a positive limit
   apart : (m : ℕ) (e : ℤ) (n : ℕ) → ltb 0 (n + b * up g * down e) ≡ false → ⊥
@@ -61,19 +61,19 @@ module _ {way : ℕ → ℕ → ℕ} {b : ℕ} {g : ℤ} (l : Limit way b g) whe
       let q : 0 < b * up g * down e = mul-pos p (down_pos e) in
       let z : n + b * up g * down e ≤ 0 = ltb-false _ _ h in omega arith
 
-  pub out-high : (x : Float) → lt x (fin false b g) ≡ false → limited (whole way x) ≡ Err Range
+  pub out_high : (x : Float) → lt x (fin false b g) ≡ false → limited (whole way x) ≡ Err Range
   unfolding lt
-  out-high nan h = refl
-  out-high (inf s) h = refl
-  out-high (fin false m e) h = far false _ (size-over m e h)
-  out-high (fin true m e) h = absurd (apart m e (m * up e * down g) h)
+  out_high nan h = refl
+  out_high (inf s) h = refl
+  out_high (fin false m e) h = far false _ (size_over m e h)
+  out_high (fin true m e) h = absurd (apart m e (m * up e * down g) h)
 
-  pub out-low : (x : Float) → lt (fin true b g) x ≡ false → limited (whole way x) ≡ Err Range
+  pub out_low : (x : Float) → lt (fin true b g) x ≡ false → limited (whole way x) ≡ Err Range
   unfolding lt
-  out-low nan h = refl
-  out-low (inf s) h = refl
-  out-low (fin true m e) h = far true _ (size-over m e h)
-  out-low (fin false m e) h = absurd (apart m e (m * up e * down g) (rw add_comm h))
+  out_low nan h = refl
+  out_low (inf s) h = refl
+  out_low (fin true m e) h = far true _ (size_over m e h)
+  out_low (fin false m e) h = absurd (apart m e (m * up e * down g) (rw add_comm h))
 
   -- what passes both tests is finite, and its whole number is within the limit
   pub Passed : Float → Type 0
@@ -86,8 +86,8 @@ module _ {way : ℕ → ℕ → ℕ} {b : ℕ} {g : ℤ} (l : Limit way b g) whe
   passed nan h k = false≢true h
   passed (inf true) h k = false≢true h
   passed (inf false) h k = false≢true k
-  passed (fin true m e) h k = size-under m e h
-  passed (fin false m e) h k = size-under m e k
+  passed (fin true m e) h k = size_under m e h
+  passed (fin false m e) h k = size_under m e k
 
 -- ---- the casts
 
@@ -95,11 +95,11 @@ cast_is : (s : Bool) (n c : ℕ) → n ≤ 30000 → c ≡ n → cond s (neg_ℤ
 cast_is true n c h e = ap (λ (k : ℕ). neg_ℤ (pos k)) (omega arith)
 cast_is false n c h e = ap pos (omega arith)
 
-pub dropped-is : (x : Float) → Passed by_cut x → limited (whole cut x) ≡ Ok (to_signed 31 x)
+pub dropped_is : (x : Float) → Passed by_cut x → limited (whole cut x) ≡ Ok (to_signed 31 x)
 unfolding to_signed Passed
-dropped-is nan h = absurd h
-dropped-is (inf s) h = absurd h
-dropped-is (fin s m e) h = near s _ h ∙ ap Ok (sym (cast_is s (m * up e / down e) (m * up e / down e) h refl))
+dropped_is nan h = absurd h
+dropped_is (inf s) h = absurd h
+dropped_is (fin s m e) h = near s _ h ∙ ap Ok (sym (cast_is s (m * up e / down e) (m * up e / down e) h refl))
 
 value_cast : (x : Float) (s : Bool) (n : ℕ) → n ≤ 30000 → HasValue x s n 1 → to_signed 31 x ≡ signed s n
 unfolding to_signed
@@ -110,13 +110,13 @@ value_cast (fin t m e) s n h v =
     (cast_is s n (m * up e / down e) h
     (let q : m * up e ≡ n * down e = sym (mul-one (m * up e)) ∙ v.1 in ap (λ (x : ℕ). x / down e) q ∙ mul-div_cancel n (down_pos e)))
 
-pub nearest-is : (x : Float) → Passed by_half x → limited (whole half_up x) ≡ Ok (to_signed 31 (float_round binary64 x))
+pub nearest_is : (x : Float) → Passed by_half x → limited (whole half_up x) ≡ Ok (to_signed 31 (float_round binary64 x))
 unfolding round_with Passed
-nearest-is nan h = absurd h
-nearest-is (inf s) h = absurd h
-nearest-is (fin true m e) h =
+nearest_is nan h = absurd h
+nearest_is (inf s) h = absurd h
+nearest_is (fin true m e) h =
     near true _ h ∙ ap Ok (sym (value_cast _ true (half_up (m * up e) (down e)) h (round_whole binary64 true (half_up (m * up e) (down e)) (omega arith))))
-nearest-is (fin false m e) h =
+nearest_is (fin false m e) h =
     near false _ h ∙ ap Ok (sym (value_cast _ false (half_up (m * up e) (down e)) h (round_whole binary64 false (half_up (m * up e) (down e)) (omega arith))))
 
 -- ---- the limits as the code writes them

@@ -35,8 +35,8 @@ pub whole_set : (n : ℕ) (xs : List ℕ) (i v : ℕ) (letters : Option ℕ) →
 whole_set n xs i v letters h e = rw (take-set-le n xs i v h) e
 
 -- the header alone
-pub whole-header : (bs out hs : List ℕ) → out ≡ paste bs 0 hs (length hs) → hs ≡ header → take 5 out ≡ stream (marks_in (take 5 out))
-whole-header bs out hs e h =
+pub whole_header : (bs out hs : List ℕ) → out ≡ paste bs 0 hs (length hs) → hs ≡ header → take 5 out ≡ stream (marks_in (take 5 out))
+whole_header bs out hs e h =
     let t : take 5 out ≡ header = ap (take 5) (e ∙ ap (λ l. paste bs 0 l (length l)) h) ∙ take-paste bs 0 header 5 zero-le (omega arith) in
     let none : marks_in header ≡ [] = marks_stream [] tt in
     rw t (rw none refl)
@@ -44,8 +44,8 @@ whole-header bs out hs e h =
 -- ---- one mark more
 
 -- bytes placed after those written
-pub front-grown : (xs : List ℕ) (n : ℕ) (ys : List ℕ) → n ≤ length xs → take (n + length ys) (placed xs n ys) ≡ take n xs ++ ys
-front-grown xs n ys h =
+pub front_grown : (xs : List ℕ) (n : ℕ) (ys : List ℕ) → n ≤ length xs → take (n + length ys) (placed xs n ys) ≡ take n xs ++ ys
+front_grown xs n ys h =
     let k : length (take n xs ++ ys) ≡ n + length ys = length-append (take n xs) ys ∙ ap (λ a. a + length ys) (length-take-le n xs h) in
     ap (take (n + length ys)) (sym (append_assoc (take n xs) ys (drop (n + length ys) xs))) ∙ take_at (take n xs ++ ys) (drop (n + length ys) xs) (n + length ys) k
 
@@ -78,10 +78,10 @@ whole_by : (xs : List ℕ) (n : ℕ) (letters : Option ℕ) (bs : List ℕ) → 
 whole_by xs n (Some c) bs l s w e = rw e.1.1 (whole_more (take n xs) e.0 w e.1.0)
 whole_by xs n None bs l s w e = let z : ◌≡◌ {A = ℕ} 0 1 = cc in absurd (omega arith)
 
-pub whole-grown : (xs out : List ℕ) (n k : ℕ) (letters letters' : Option ℕ) (bs : List ℕ) → n ≤ length xs → is_some letters ≡ true → letters' ≡ letters →
+pub whole_grown : (xs out : List ℕ) (n k : ℕ) (letters letters' : Option ℕ) (bs : List ℕ) → n ≤ length xs → is_some letters ≡ true → letters' ≡ letters →
     take n xs ≡ opened letters (marks_in (take n xs)) → Encoded bs → out ≡ placed xs n bs → k ≡ n + length bs → take k out ≡ opened letters' (marks_in (take k out))
-whole-grown xs out n k letters letters' bs l s same w e p q =
-    let f : take k out ≡ take n xs ++ bs = ap (λ o. take k o) p ∙ ap (λ j. take j (placed xs n bs)) q ∙ front-grown xs n bs l in
+whole_grown xs out n k letters letters' bs l s same w e p q =
+    let f : take k out ≡ take n xs ++ bs = ap (λ o. take k o) p ∙ ap (λ j. take j (placed xs n bs)) q ∙ front_grown xs n bs l in
     rw (same, f) (whole_by xs n letters bs l s w e)
 
 -- a stream in a slice by its parts
@@ -110,7 +110,7 @@ same_model l q s u = cc
 model_more : (w : Written) (m : SMark) (p p' : List GName) → InRange m → w.used + length (encode m) ≤ length w.bytes → front w ≡ stream (marks_in (front w)) → p' ≡ p →
     stream_model (grown w (encode m)) p' ≡ advanced (stream_model w p) (m ∷ [])
 model_more w m p p' i h e q =
-    same_model w.letters (ap marks_in (front-grown w.bytes w.used (encode m) (omega arith)) ∙ marks_more (front w) m e i) (answers_more w m h) q
+    same_model w.letters (ap marks_in (front_grown w.bytes w.used (encode m) (omega arith)) ∙ marks_more (front w) m e i) (answers_more w m h) q
 
 answer_now : (w : Written) (m : SMark) → answers_of w [] m ≡ verdict w.letters (length w.bytes - w.used) m
 answer_now w m = let u : w.used + 0 ≡ w.used = omega arith in rw u

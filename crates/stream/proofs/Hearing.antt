@@ -16,7 +16,7 @@ use Rattle.stream.specs.Plays.{Played}
 use Rattle.stream.specs.Written.{Written, answers_of, beginning, begun, front, grown, heard, lent, room_for, verdict}
 use Rattle.stream.specs.RoundTrips.{Made, RoundTrip, after_put, after_puts, if_taken, taken_of}
 use Rattle.codec.proofs.Scans.{read-stream}
-use Rattle.stream.proofs.Appending.{front-grown, marks_more, marks_range, marks_stream, whole_more}
+use Rattle.stream.proofs.Appending.{front_grown, marks_more, marks_range, marks_stream, whole_more}
 
 -- ---- one device
 
@@ -52,7 +52,7 @@ taken_room w m s t =
 grown_sound : (w : Written) (m : SMark) → Sound w → InRange m → w.used + length (encode m) ≤ length w.bytes → Sound (grown w (encode m))
 grown_sound w m s i h =
     let short = s.short in
-    let f = front-grown w.bytes w.used (encode m) (omega arith) in
+    let f = front_grown w.bytes w.used (encode m) (omega arith) in
     let n = placed-length w.bytes w.used (encode m) h in
     record { some = s.some; letters = s.letters; short = omega arith; whole = rw f (whole_more (front w) m s.whole i) }
 
@@ -66,7 +66,7 @@ put_marks_lem : (o : Option ℕ) (w : Written) (m : SMark) (ms : List SMark) →
 put_marks_lem None w m ms e s i =
     let r = taken_room w m s e in
     let short = s.short in
-    let f = front-grown w.bytes w.used (encode m) (omega arith) in
+    let f = front_grown w.bytes w.used (encode m) (omega arith) in
     ap (λ l. l ++ ms) (ap marks_in f ∙ marks_more (front w) m s.whole (i r.0)) ∙ append_assoc (marks_in (front w)) (m ∷ []) ms
 put_marks_lem (Some n) w m ms e s i = refl
 
@@ -87,13 +87,13 @@ begun_by false b e = let z : ◌≡◌ {A = ℕ} 0 1 = cc in absurd (omega arith
 
 begun_sound : (bs : List ℕ) (c : ℕ) → 5 ≤ length bs → Sound (begun (lent bs) c)
 begun_sound bs c h =
-    let f = front-grown bs 0 header zero-le in
+    let f = front_grown bs 0 header zero-le in
     let n = placed-length bs 0 header h in
     let none : marks_in header ≡ [] = marks_stream [] tt in
     record { some = c; letters = refl; short = omega arith; whole = rw f (rw none refl) }
 
 begun_marks : (bs : List ℕ) (c : ℕ) → marks_in (front (begun (lent bs) c)) ≡ []
-begun_marks bs c = ap marks_in (front-grown bs 0 header zero-le) ∙ marks_stream [] tt
+begun_marks bs c = ap marks_in (front_grown bs 0 header zero-le) ∙ marks_stream [] tt
 
 pub round_trip : RoundTrip
 round_trip bs c ms e h =

@@ -32,13 +32,13 @@ high c =
 difference : ℕ → ℕ → ℤ
 difference n s = to_z w64 n -ℤ to_z w64 (of_z w64 (pos 2000000 *ℤ to_z w64 s))
 
-difference-is : (n s : ℕ) → s ≤ 5000000 → n ≤ 2000000 * s + 2000000 → difference n s ≡ pos n -ℤ pos (2000000 * s)
+difference_is : (n s : ℕ) → s ≤ 5000000 → n ≤ 2000000 * s + 2000000 → difference n s ≡ pos n -ℤ pos (2000000 * s)
 unfolding difference
-difference-is n s p h = omega (arith, ints)
+difference_is n s p h = omega (arith, ints)
 
 difference_fits : (n s : ℕ) → s ≤ 5000000 → 2000000 * s ≤ n + 2000000 → n ≤ 2000000 * s + 2000000 → (to_z w64 (of_z w64 (difference n s)) ≡ pos n -ℤ pos (2000000 * s)) × SFits w32 (to_z w64 (of_z w64 (difference n s)))
 difference_fits n s p g h =
-    let e = difference-is n s p h in
+    let e = difference_is n s p h in
     (rw e (omega (arith, ints)), rw e (omega (arith, ints)))
 
 pub before-end-requires : goal.before-end-requires

@@ -11,8 +11,8 @@ module _ (a b p w : ℤ) (i : Within a) (j : Within b) (h : pos 0 ≤ℤ p) (k :
   run_fits : SFits w64 (b -ℤ a)
   run_fits = omega (arith, ints)
 
-  times-fits : SFits w64 ((b -ℤ a) *ℤ p)
-  times-fits = product_fits (b -ℤ a) p (omega (arith, ints)) (omega (arith, ints)) h (omega (arith, ints))
+  times_fits : SFits w64 ((b -ℤ a) *ℤ p)
+  times_fits = product_fits (b -ℤ a) p (omega (arith, ints)) (omega (arith, ints)) h (omega (arith, ints))
 
   cut_fits : SFits w64 (quot_z ((b -ℤ a) *ℤ p) w)
   cut_fits = let s = share_bounds (b -ℤ a) p w h k in omega (arith, ints, clamps)
@@ -29,7 +29,7 @@ overflow-mul-run c =
     let ga : SFits w64 a = omega (arith, ints) in
     let gb : SFits w64 b = omega (arith, ints) in
     let r = run_fits a b p w c.requires.limits.0 c.requires.limits.1 c.requires.part.0 c.requires.part.1 c.requires.whole.1 in
-    simp to_z-of_z (times-fits a b p w c.requires.limits.0 c.requires.limits.1 c.requires.part.0 c.requires.part.1 c.requires.whole.1)
+    simp to_z-of_z (times_fits a b p w c.requires.limits.0 c.requires.limits.1 c.requires.part.0 c.requires.part.1 c.requires.whole.1)
 
 pub cut-away-requires : goal.cut-away-requires
 cut-away-requires c =
@@ -44,7 +44,7 @@ cut-away-requires c =
     let ga : SFits w64 a = omega (arith, ints) in
     let gb : SFits w64 b = omega (arith, ints) in
     let r = run_fits a b p w c.requires.limits.0 c.requires.limits.1 c.requires.part.0 c.requires.part.1 c.requires.whole.1 in
-    let t = times-fits a b p w c.requires.limits.0 c.requires.limits.1 c.requires.part.0 c.requires.part.1 c.requires.whole.1 in
+    let t = times_fits a b p w c.requires.limits.0 c.requires.limits.1 c.requires.part.0 c.requires.part.1 c.requires.whole.1 in
     simp to_z-of_z (c.requires.whole.0, cut_fits a b p w c.requires.limits.0 c.requires.limits.1 c.requires.part.0 c.requires.part.1 c.requires.whole.1)
 
 is : (c : goal.After-cut-away) → c.args.a +ℤ c.cut-away.result ≡ moved_by c.args.a c.args.b c.args.part c.args.whole
@@ -60,7 +60,7 @@ is c =
     let ga : SFits w64 a = omega (arith, ints) in
     let gb : SFits w64 b = omega (arith, ints) in
     let r = run_fits a b p w c.requires.limits.0 c.requires.limits.1 c.requires.part.0 c.requires.part.1 c.requires.whole.1 in
-    let t = times-fits a b p w c.requires.limits.0 c.requires.limits.1 c.requires.part.0 c.requires.part.1 c.requires.whole.1 in
+    let t = times_fits a b p w c.requires.limits.0 c.requires.limits.1 c.requires.part.0 c.requires.part.1 c.requires.whole.1 in
     ap (λ z. c.args.a +ℤ z) (simp to_z-of_z at c.cut-away.ensures)
 
 near : (c : goal.After-cut-away) → Between c.args.a c.args.b (c.args.a +ℤ c.cut-away.result)

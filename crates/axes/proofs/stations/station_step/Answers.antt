@@ -3,7 +3,7 @@ use Rattle.std.specs.List.{range_with_len}
 use Rattle.std.proofs.lemmas.Bool.{leb-true, leb-false}
 use Rattle.axes.specs.Shares.{up_of}
 use Rattle.axes.specs.Stations.{station_keys, centres_by}
-use Rattle.axes.specs.Centres.{step_next, step-here}
+use Rattle.axes.specs.Centres.{step_next, step_here}
 use Rattle.axes.proofs.stations.station_step.Goals as goal
 
 pub loop-s-init : goal.loop-s-init
@@ -19,7 +19,7 @@ returns-then-sparse c =
     let m = c.args.most in
     let e : n + 1 - s ≡ suc (n - s) = omega arith in
     let few = leb-true (up_of s n) m (sym c.sparse.ensures ∙ c.if-sparse.true) in
-    (omega arith, omega arith, c.loop-s.invariant ∙ ap (λ (j : ℕ). centres_by (range_with_len s j) m n) e ∙ step-here s (n - s) m n few)
+    (omega arith, omega arith, c.loop-s.invariant ∙ ap (λ (j : ℕ). centres_by (range_with_len s j) m n) e ∙ step_here s (n - s) m n few)
 
 pub loop-s-preserved : goal.loop-s-preserved
 loop-s-preserved c =

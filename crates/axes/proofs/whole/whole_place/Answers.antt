@@ -7,8 +7,8 @@ use Rattle.axes.specs.Whole.{held_to}
 use Rattle.axes.proofs.whole.whole_place.Goals as goal
 
 -- `x as i64 - y as i64`, stored
-apart-is : (x y : ℤ) → SFits w32 x → SFits w32 y → to_z w64 (of_z w64 (to_z w64 (of_z w64 (to_z w32 (of_z w32 x))) -ℤ to_z w64 (of_z w64 (to_z w32 (of_z w32 y))))) ≡ x -ℤ y
-apart-is x y f g = omega (arith, ints)
+apart_is : (x y : ℤ) → SFits w32 x → SFits w32 y → to_z w64 (of_z w64 (to_z w64 (of_z w64 (to_z w32 (of_z w32 x))) -ℤ to_z w64 (of_z w64 (to_z w32 (of_z w32 y))))) ≡ x -ℤ y
+apart_is x y f g = omega (arith, ints)
 
 pub moved-requires : goal.moved-requires
 moved-requires c =
@@ -19,7 +19,7 @@ moved-requires c =
     let fb = c.ranges.b in
     let fc : SFits w32 c.clamp-held.result = record { sfits = c.clamp-held.type-inv } in
     let e = c.requires.ends.1 in
-    simp apart-is record {
+    simp apart_is record {
       limits = simp to_z-of_z c.requires.limits;
       part = (omega (arith, ints), omega (arith, ints));
       whole = (omega (arith, ints), omega (arith, ints));
@@ -38,7 +38,7 @@ returns c =
     let fb = c.ranges.b in
     let fc : SFits w32 c.clamp-held.result = record { sfits = c.clamp-held.type-inv } in
     let h : c.clamp-held.result ≡ held_to lo hi c.args.v = simp to_z-of_z at c.clamp-held.ensures.value in
-    let e = simp to_z-of_z at (simp apart-is at c.moved.ensures) in
+    let e = simp to_z-of_z at (simp apart_is at c.moved.ensures) in
     let t : lt_z lo hi ≡ true = sym (omega (arith, ints)) in
     let fr : SFits w32 c.moved.result = record { sfits = c.moved.type-inv } in
     to_z-of_z w32 c.moved.result fr ∙ e ∙ ap (λ z. moved_by a b (z -ℤ lo) (hi -ℤ lo)) h ∙ sym (cond-true (lt_z lo hi) _ a t)

@@ -1,7 +1,7 @@
 use Rattle.std.proofs.Common.{◌≡◌, Some, Ok, sym, ap, ◌∙◌, subst, w32, SFits, to_z, of_z, rules}
 use Rattle.std.proofs.lemmas.Int.{to_z-of_z}
 use Rattle.coord.specs.Axis.{Between, place_of_some, key_place_of}
-use Rattle.coord.proofs.Bounds.{bounded-is, bounded_ok}
+use Rattle.coord.proofs.Bounds.{bounded_is, bounded_ok}
 use Rattle.coord.proofs.keys.key_place.Goals as goal
 
 pub returns-in-ok-map : goal.returns-in-ok-map
@@ -17,6 +17,6 @@ returns-in-ok-map g c =
     let key = sym c.in-Some.is ∙ c.key-value.ensures in
     let near = ((g.met.X.Ranged.lawful c.args.axis.now).places l.0 l.1 found.1 found.2).inside v in
     record {
-      is = ap (λ p. Ok (Some p)) at ∙ ap (λ o. Ok (place_of_some x o l.0 l.1)) key ∙ sym (bounded-is l (key_place_of x h c.args.k) found.1 found.2);
+      is = ap (λ p. Ok (Some p)) at ∙ ap (λ o. Ok (place_of_some x o l.0 l.1)) key ∙ sym (bounded_is l (key_place_of x h c.args.k) found.1 found.2);
       inside = λ p e. let q : x.place v l.0 l.1 ≡ p = cc in subst (Between l.0 l.1) q near;
     }

@@ -1,7 +1,7 @@
 use Rattle.std.proofs.Common.{Ok, sym, ap, ◌∙◌, w32, SFits, rules}
 use Rattle.std.proofs.lemmas.Int.{to_z-of_z}
 use lib.Ieee.{to_signed}
-use Rattle.size.proofs.Wholes.{by_half, out-high, out-low, passed, nearest-is, half_limit, neg_is}
+use Rattle.size.proofs.Wholes.{by_half, out_high, out_low, passed, nearest_is, half_limit, neg_is}
 use Rattle.size.proofs.desc.round_off.Goals as goal
 use Rattle.size.proofs.desc.round_off.Goals.{else-x-via-then-x+else-x-2, else-x-via-else-x}
 
@@ -10,12 +10,12 @@ returns-then-x-2 c =
     let x = c.args.x in
     let p = passed by_half x (rw (neg_is _ _ _ half_limit) at c.if-x.true) (rw half_limit at c.if-x-2.true) in
     let f : SFits w32 c.saturating-f64-to-i32.result = search rules in
-    ap Ok (to_z-of_z w32 _ f ∙ c.saturating-f64-to-i32.ensures ∙ ap (to_signed 31) c.round.ensures) ∙ sym (nearest-is x p)
+    ap Ok (to_z-of_z w32 _ f ∙ c.saturating-f64-to-i32.ensures ∙ ap (to_signed 31) c.round.ensures) ∙ sym (nearest_is x p)
 
 pub returns-else-x : goal.returns-else-x
 returns-else-x c =
     let x = c.args.x in
     elim c.else-x.branch [
-      | else-x-via-then-x+else-x-2 w ↦ sym (out-high by_half x (rw half_limit at w.if-x-2.false))
-      | else-x-via-else-x w ↦ sym (out-low by_half x (rw (neg_is _ _ _ half_limit) at w.if-x.false))
+      | else-x-via-then-x+else-x-2 w ↦ sym (out_high by_half x (rw half_limit at w.if-x-2.false))
+      | else-x-via-else-x w ↦ sym (out_low by_half x (rw (neg_is _ _ _ half_limit) at w.if-x.false))
     ]

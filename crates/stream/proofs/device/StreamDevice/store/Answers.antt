@@ -3,7 +3,7 @@ use Rattle.std.proofs.lemmas.List.{length-append}
 use Rattle.std.proofs.lemmas.List.Edits.{length-paste}
 use Rattle.devices.specs.Placed.{placed}
 use Rattle.devices.proofs.Keeping.{placed-length}
-use Rattle.stream.proofs.Appending.{same_written, two_placed, whole-grown}
+use Rattle.stream.proofs.Appending.{same_written, two_placed, whole_grown}
 use Rattle.stream.proofs.device.StreamDevice.store.Goals as goal
 
 pub copy-in-requires-2 : goal.copy-in-requires-2
@@ -30,7 +30,7 @@ invariant-of-self c =
       omega arith,
       (
         c.copy-in-2.new.self.narrow,
-        (whole-grown d.out.now c.copy-in-2.new.self.out.now d.used _ d.letters c.copy-in-2.new.self.letters (h ++ t) short c.requires.begun letters d.whole c.requires.mark out (omega arith), tt),
+        (whole_grown d.out.now c.copy-in-2.new.self.out.now d.used _ d.letters c.copy-in-2.new.self.letters (h ++ t) short c.requires.begun letters d.whole c.requires.mark out (omega arith), tt),
       ),
     )
 

@@ -1,3 +1,6 @@
+// Rectangles of pixels: made within the limits, cut by margins, and split.
+#![tactic(auto)]
+
 ghost use Rattle.area.specs.Corners.{Span};
 
 mod breaks;

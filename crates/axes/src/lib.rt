@@ -1,4 +1,6 @@
 // The kinds of axes: whole numbers, stations, and either of them.
+#![tactic(auto)]
+
 pub mod kinds;
 mod multiples;
 mod pixels;

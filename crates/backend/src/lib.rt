@@ -1,4 +1,6 @@
 // Marks, and the devices that they are put on.
+#![tactic(auto)]
+
 pub mod device;
 pub mod feed;
 pub mod font;

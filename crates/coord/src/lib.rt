@@ -1,4 +1,6 @@
 // Axes of any kind: what is asked of one, what it answers, and layers over it.
+#![tactic(auto)]
+
 pub mod hint;
 pub mod keys;
 pub mod layered;

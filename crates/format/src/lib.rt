@@ -1,4 +1,6 @@
 // What is written of the values of an axis.
+#![tactic(auto)]
+
 pub mod decimal;
 pub mod either;
 pub mod formatter;

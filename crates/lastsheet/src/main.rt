@@ -1,4 +1,6 @@
 // Lays out one measurement sheet, rules it, and states what it did.
+#![tactic(auto)]
+
 mod layout;
 mod ruling;
 

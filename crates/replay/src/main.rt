@@ -1,4 +1,5 @@
 // Answers lines of questions about the layout library: `size ..`, `split ..` and `axis ..`, one answer to a line.
+#![tactic(auto)]
 
 mod fault;
 mod ranged;

@@ -1,4 +1,6 @@
 // Streams of marks: written into lent bytes, and read back.
+#![tactic(auto)]
+
 pub mod device;
 pub mod play;
 pub mod reader;

@@ -9,8 +9,8 @@ pub returns-then-x-2 : goal.returns-then-x-2
 returns-then-x-2 c =
     let x = c.args.x in
     let p = passed by_half x (rw (neg_is _ _ _ half_limit) at c.if-x.true) (rw half_limit at c.if-x-2.true) in
-    let f : SFits w32 c.saturating-f64-to-i32.result = search rules in
-    ap Ok (to_z-of_z w32 _ f ∙ c.saturating-f64-to-i32.ensures ∙ ap (to_signed 31) c.round.ensures) ∙ sym (nearest_is x p)
+    let f : SFits w32 c.saturating_f64_to_i32.result = search rules in
+    ap Ok (to_z-of_z w32 _ f ∙ c.saturating_f64_to_i32.ensures ∙ ap (to_signed 31) c.round.ensures) ∙ sym (nearest_is x p)
 
 pub returns-else-x : goal.returns-else-x
 returns-else-x c =

@@ -5,7 +5,7 @@ import sys
 
 ROOT = os.path.dirname(os.path.dirname(os.path.abspath(__file__)))
 ORACLE = os.environ.get("ORACLE", os.path.join(ROOT, "target/oracle/target/release/oracle"))
-REPLAY = os.environ.get("REPLAY", os.path.join(ROOT, "target/bin/replay"))
+REPLAY = os.environ.get("REPLAY", os.path.join(ROOT, "crates/replay/out/replay"))
 
 
 def run(program, words, lines=()):
@@ -30,5 +30,5 @@ def oracle(words, lines=()):
 
 def replay(lines):
     if not os.path.exists(REPLAY):
-        sys.exit("no replay at %s: `rt check replay` makes it" % REPLAY)
+        sys.exit("no replay at %s: `rt run` in crates/replay makes it" % REPLAY)
     return run(REPLAY, [], lines)

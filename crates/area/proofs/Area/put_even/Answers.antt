@@ -10,4 +10,4 @@ even-cell-requires c =
     (div_below c.args.k c.args.grid.1 c.args.grid.0 p (search rules), mod_below c.args.k c.args.grid.1 p)
 
 pub returns : goal.returns
-returns c = λ old n h. written_more corners _ c.args.out.now old c.args.k c.even-cell.result (omega arith) c.even-cell.ensures h
+returns c = λ old n h. written_more corners _ c.args.out.now old c.args.k c.even_cell.result (omega arith) c.even_cell.ensures h

@@ -12,7 +12,7 @@ part-start-end-requires c = (omega arith, part_le c.extent-size.result c.args.n 
 
 pub returns : goal.returns
 returns c =
-    let a : c.part-start-start.result ≡ part (nat_abs (c.args.to -ℤ c.args.from)) c.args.n c.args.idx = search (rules, to_z-of_z) in
-    let b : c.part-start-end.result ≡ part (nat_abs (c.args.to -ℤ c.args.from)) c.args.n (c.args.idx + 1) = search (rules, to_z-of_z) in
-    let m : c.part-start-start.result ≤ c.part-start-end.result = rw (a, b) (part_more _ _ _) in
+    let a : c.part_start-start.result ≡ part (nat_abs (c.args.to -ℤ c.args.from)) c.args.n c.args.idx = search (rules, to_z-of_z) in
+    let b : c.part_start-end.result ≡ part (nat_abs (c.args.to -ℤ c.args.from)) c.args.n (c.args.idx + 1) = search (rules, to_z-of_z) in
+    let m : c.part_start-start.result ≤ c.part_start-end.result = rw (a, b) (part_more _ _ _) in
     record { start = omega (arith, ints); end = omega (arith, ints); span = omega (arith, ints) }

@@ -4,8 +4,8 @@ use Rattle.area.specs.Areas.{corners}
 use Rattle.area.proofs.Written.{written_more}
 use Rattle.area.proofs.Area.put_even.Goals as goal
 
-pub even-cell-requires : goal.even-cell-requires
-even-cell-requires c =
+pub even_cell-requires : goal.even_cell-requires
+even_cell-requires c =
     let p : 0 < c.args.grid.1 = search rules in
     (div_below c.args.k c.args.grid.1 c.args.grid.0 p (search rules), mod_below c.args.k c.args.grid.1 p)
 

@@ -4,11 +4,11 @@ use Rattle.area.specs.Grids.{part}
 use Rattle.area.proofs.Parts.{part_more, part_le}
 use Rattle.area.proofs.even.compute_evenly_split.Goals as goal
 
-pub part-start-start-requires : goal.part-start-start-requires
-part-start-start-requires c = (omega arith, part_le c.extent-size.result c.args.n c.args.idx (omega arith))
+pub part_start-start-requires : goal.part_start-start-requires
+part_start-start-requires c = (omega arith, part_le c.extent-size.result c.args.n c.args.idx (omega arith))
 
-pub part-start-end-requires : goal.part-start-end-requires
-part-start-end-requires c = (omega arith, part_le c.extent-size.result c.args.n (c.args.idx + 1) (omega arith))
+pub part_start-end-requires : goal.part_start-end-requires
+part_start-end-requires c = (omega arith, part_le c.extent-size.result c.args.n (c.args.idx + 1) (omega arith))
 
 pub returns : goal.returns
 returns c =

@@ -1,4 +1,4 @@
-use Rattle.std.proofs.Common.{◌*◌, ◌<◌, map, arith, rules}
+use Rattle.std.proofs.Common.{◌<◌, arith, rules}
 use Rattle.std.proofs.lemmas.Nat.{div_below, mod_below}
 use Rattle.area.specs.Areas.{corners}
 use Rattle.area.proofs.Written.{written_more}

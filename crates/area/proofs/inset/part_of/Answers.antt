@@ -1,6 +1,5 @@
 use Rattle.std.proofs.Common.{◌≡◌, ◌+ℤ◌, ap, ◌∙◌, arith, w32, SFits, rules}
 use Rattle.std.proofs.lemmas.Int.{ints, clamps, to_z-of_z}
-use Rattle.std.specs.Int.{int_min, int_max}
 use Rattle.area.specs.Insets.{begin_of, end_of}
 use Rattle.area.proofs.inset.part_of.Goals as goal
 

@@ -1,5 +1,5 @@
 -- An area cut into columns and rows.
-use Rattle.std.specs.Prelude.{◌≡◌, ℕ, ◌+◌, ◌*◌, ◌/◌, ◌%◌, min, Bool, cond, ◌&&◌, List, ◌++◌, map, drop, ℤ, pos, ◌+ℤ◌, Ok, Err, Result, nat_le}
+use Rattle.std.specs.Prelude.{◌≡◌, ℕ, ◌+◌, ◌*◌, ◌/◌, ◌%◌, min, cond, ◌&&◌, List, ◌++◌, map, drop, ℤ, pos, ◌+ℤ◌, Ok, Err, Result, nat_le}
 use Rattle.std.specs.List.{range_with_len}
 use Rattle.size.specs.declared.refusal.Refusal.{Refusal}
 use Rattle.size.specs.declared.refusal.Refusal.TheVariants.{Range, Short}

@@ -1,5 +1,5 @@
 -- Sizes and splits written out: one table, which the checker computes.
-use Rattle.std.specs.Prelude.{◌≡◌, ℕ, true, false, List, [], ◌∷◌, map, ℤ, pos, negsuc, Some, None, Ok, Err, Result, Float}
+use Rattle.std.specs.Prelude.{◌≡◌, ℕ, true, false, List, [], ◌∷◌, map, ℤ, pos, negsuc, Some, Ok, Err, Result, Float}
 use Rattle.std.specs.Float.{fin, nan, inf, binary64}
 use Rattle.std.specs.Float.Ieee.{div, of_int}
 use Rattle.size.specs.declared.refusal.Refusal.{Refusal}

@@ -1,11 +1,10 @@
 use Rattle.std.proofs.Common.{◌≡◌, ◌+ℤ◌, ap, ◌∙◌, arith, w32, SFits, rules}
 use Rattle.std.proofs.lemmas.Int.{ints, clamps, to_z-of_z}
-use Rattle.std.specs.Int.{int_min, int_max}
 use Rattle.area.specs.Insets.{begin_of, end_of}
 use Rattle.area.proofs.inset.part_of.Goals as goal
 
-pub overflow-add-begin : goal.overflow-add-begin
-overflow-add-begin c = omega (arith, ints, clamps)
+pub overflow_add-begin : goal.overflow_add-begin
+overflow_add-begin c = omega (arith, ints, clamps)
 
 pub returns : goal.returns
 returns c =

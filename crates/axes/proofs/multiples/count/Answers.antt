@@ -10,8 +10,8 @@ here c =
 pub before-end-requires : goal.before-end-requires
 before-end-requires c = record { z = (omega (arith, ints), omega (arith, ints)); step = c.requires.step }
 
-pub overflow-sub-result : goal.overflow-sub-result
-overflow-sub-result c = (here c).ordered
+pub overflow_sub-result : goal.overflow_sub-result
+overflow_sub-result c = (here c).ordered
 
 pub returns : goal.returns
 returns c = sym (ap length (here c).are ∙ run_length _ _ _ _)

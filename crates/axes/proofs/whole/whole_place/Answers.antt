@@ -17,7 +17,7 @@ moved-requires c =
     let fv = c.ranges.v in
     let fa = c.ranges.a in
     let fb = c.ranges.b in
-    let fc : SFits w32 c.clamp-held.result = record { sfits = c.clamp-held.type-inv } in
+    let fc : SFits w32 c.clamp-held.result = record { sfits = c.clamp-held.type_inv } in
     let e = c.requires.ends.1 in
     simp apart_is record {
       limits = simp to_z-of_z c.requires.limits;
@@ -36,9 +36,9 @@ returns c =
     let fv = c.ranges.v in
     let fa = c.ranges.a in
     let fb = c.ranges.b in
-    let fc : SFits w32 c.clamp-held.result = record { sfits = c.clamp-held.type-inv } in
+    let fc : SFits w32 c.clamp-held.result = record { sfits = c.clamp-held.type_inv } in
     let h : c.clamp-held.result ≡ held_to lo hi c.args.v = simp to_z-of_z at c.clamp-held.ensures.value in
     let e = simp to_z-of_z at (simp apart_is at c.moved.ensures) in
     let t : lt_z lo hi ≡ true = sym (omega (arith, ints)) in
-    let fr : SFits w32 c.moved.result = record { sfits = c.moved.type-inv } in
+    let fr : SFits w32 c.moved.result = record { sfits = c.moved.type_inv } in
     to_z-of_z w32 c.moved.result fr ∙ e ∙ ap (λ z. moved_by a b (z -ℤ lo) (hi -ℤ lo)) h ∙ sym (cond-true (lt_z lo hi) _ a t)

@@ -1,10 +1,8 @@
--- Axes of either kind are lawful, and their k-th key values.
-use Rattle.std.specs.Prelude.{◌≡◌, ℕ, zero, suc, List, [], ◌∷◌, map, refl}
+-- Axes of either kind are lawful.
 use Rattle.std.proofs.Common.{arith}
 use Rattle.std.proofs.lemmas.List.{length-map}
-use Rattle.std.specs.List.{slice_get}
 use Rattle.coord.specs.Axis.{Axis, Lawful}
-use Rattle.axes.specs.Kinds.{viewed_axis, number_in, station_in, any_axis, some_as}
+use Rattle.axes.specs.Kinds.{viewed_axis, number_in, station_in, any_axis}
 use Rattle.axes.specs.Stations.{station_axis}
 use Rattle.axes.specs.Whole.{whole_axis}
 use Rattle.axes.specs.declared.kinds.AnyAxis.{AnyAxis}
@@ -31,9 +29,3 @@ viewed_lawful read make x l = record {
 pub any_lawful : (x : AnyAxis) → Lawful (any_axis x)
 any_lawful (axis.Whole x) = viewed_lawful number_in value.Whole (whole_axis x.lo x.hi) (whole_lawful x.lo x.hi x.ends.0)
 any_lawful (axis.Stations x) = viewed_lawful station_in value.Station (station_axis x.n) (station_lawful x.n x.few.0)
-
--- ---- the k-th of a list whose items are made into others
-pub nth_made : {V W : Type 0} (make : V → W) (vs : List V) (k : ℕ) → some_as make (slice_get vs k) ≡ slice_get (map make vs) k
-nth_made make [] k = refl
-nth_made make (v ∷ vs) zero = refl
-nth_made make (v ∷ vs) (suc k) = nth_made make vs k

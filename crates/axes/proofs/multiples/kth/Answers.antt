@@ -41,9 +41,6 @@ difference_fits n s p g h =
     let e = difference_is n s p h in
     (rw e (omega (arith, ints)), rw e (omega (arith, ints)))
 
-pub before-end-requires : goal.before-end-requires
-before-end-requires c = record { z = (omega (arith, ints), omega (arith, ints)); step = c.requires.step }
-
 pub overflow_sub-end : goal.overflow_sub-end
 overflow_sub-end c = (after c).ordered
 

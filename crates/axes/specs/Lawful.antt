@@ -1,20 +1,14 @@
 -- The axes are lawful.
 use Rattle.std.specs.Prelude.{◌≡◌, ℕ, zero, suc, ◌+◌, ◌-◌, ◌*◌, ◌<◌, min, Bool, true, false, cond, List, [], ◌∷◌, map, ℤ, pos, ◌+ℤ◌, ◌-ℤ◌, ◌≤ℤ◌, int_lt, refl}
-use Rattle.std.proofs.lemmas.List.{length-map}
 use Rattle.std.proofs.Common.{arith}
 use Rattle.std.specs.Int.{int_min, int_max}
-use Rattle.std.specs.List.{slice_get}
 use Rattle.std.proofs.lemmas.Int.{ints, clamps}
 use Rattle.coord.specs.Axis.{Axis, Between, Places, Lawful}
-use Rattle.axes.specs.Kinds.{viewed_axis, number_in, station_in, any_axis, some_as}
 use Rattle.axes.specs.Shares.{moved_by}
 use Rattle.axes.specs.Stations.{station_place_of, station_axis}
 use Rattle.axes.specs.Whole.{held_to, whole_place_of, whole_axis}
 use Rattle.axes.specs.declared.station.Station.{Station}
 use Rattle.axes.specs.declared.station.Station.TheVariants.{Edge, Centre}
-use Rattle.axes.specs.declared.kinds.AnyAxis.{AnyAxis}
-use Rattle.axes.specs.declared.kinds.AnyAxis.TheVariants as axis
-use Rattle.axes.specs.declared.kinds.AnyValue.TheVariants as value
 use Rattle.axes.specs.Centres.{station_few}
 use Rattle.axes.specs.Keys.{keys_few}
 use Rattle.axes.specs.Moves.{moved_inside, moved_mirror}
@@ -71,31 +65,3 @@ station_lawful n p = record {
   few = λ h. station_few n h.most;
   places = λ a b i j. all_places (station_axis n) a b refl refl refl refl (λ v. station_inside n v a b p) (λ v. station_mirror n v a b p);
 }
-
--- ---- either kind
-
-viewed_lawful : {V W : Type 0} (read : W → V) (make : V → W) (x : Axis V) → Lawful x → Lawful (viewed_axis read make x)
-viewed_lawful read make x l = record {
-  few = λ h. omega (arith, l.few h, length-map (x.keys h) make);
-  places = λ a b i j.
-      let p = l.places a b i j in
-      record {
-        inside = λ w. p.inside (read w);
-        mirror = λ w. p.mirror (read w);
-        least = p.least;
-        ordered = p.ordered;
-        greatest = p.greatest;
-        low_turned = p.low_turned;
-        high_turned = p.high_turned;
-      };
-}
-
-pub any_lawful : (x : AnyAxis) → Lawful (any_axis x)
-any_lawful (axis.Whole x) = viewed_lawful number_in value.Whole (whole_axis x.lo x.hi) (whole_lawful x.lo x.hi x.ends.0)
-any_lawful (axis.Stations x) = viewed_lawful station_in value.Station (station_axis x.n) (station_lawful x.n x.few.0)
-
--- ---- the k-th of a list whose items are made into others
-pub nth_made : {V W : Type 0} (make : V → W) (vs : List V) (k : ℕ) → some_as make (slice_get vs k) ≡ slice_get (map make vs) k
-nth_made make [] k = refl
-nth_made make (v ∷ vs) zero = refl
-nth_made make (v ∷ vs) (suc k) = nth_made make vs k

@@ -4,6 +4,7 @@ pub mod Stations
 pub mod Kinds
 pub mod Samples
 pub mod Lawful
+pub mod EitherLawful
 pub mod Centres
 pub mod Keys
 pub mod Moves

@@ -1,6 +1,6 @@
 ghost use Rattle.std.specs.Prelude.{◌≡◌, map, length};
 ghost use Rattle.axes.specs.Kinds.{number_in, station_in, some_as, any_axis};
-ghost use Rattle.axes.specs.Lawful.{any_lawful};
+ghost use Rattle.axes.specs.EitherLawful.{any_lawful};
 
 use crate::station::Station;
 use crate::stations::StationAxis;

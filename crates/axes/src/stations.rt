@@ -3,7 +3,7 @@ ghost use Rattle.std.specs.List.{slice_get};
 ghost use Rattle.coord.specs.Axis.{Within};
 ghost use Rattle.axes.specs.Shares.{up_of};
 ghost use Rattle.axes.specs.Stations.{Few, count_of, station_place_of, station_keys, centres, station_axis};
-ghost use Rattle.std.proofs.Common.{rules, arith};
+ghost use Rattle.axes.specs.Lawful.{station_lawful};
 
 use crate::pixels::{all_between, moved};
 use crate::station::Station;
@@ -110,7 +110,7 @@ impl Ranged for StationAxis {
 
     ghost meaning = { λ x. station_axis x.n };
 
-    ghost lawful = { first_of (Prim.search rules, Prim.grind (arith, Self.row.coded.inj)) };
+    ghost lawful = { λ x. station_lawful x.n x.few.0 };
 
     fn map(&self, value: Station, limits: (i32, i32)) -> Result<i32, Refusal> {
         if !allowed(limits) {

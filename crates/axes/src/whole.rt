@@ -1,7 +1,7 @@
 ghost use Rattle.std.specs.Prelude.{◌≡◌, Ok, Err};
 ghost use Rattle.coord.specs.Axis.{Within};
 ghost use Rattle.axes.specs.Whole.{Ends, ends_of, whole_place_of, whole_axis};
-ghost use Rattle.std.proofs.Common.{rules, arith};
+ghost use Rattle.axes.specs.Lawful.{whole_lawful};
 
 use crate::multiples::{whole_count, whole_key};
 use crate::pixels::{all_between, moved};
@@ -49,7 +49,7 @@ impl Ranged for WholeAxis {
 
     ghost meaning = { λ x. whole_axis x.lo x.hi };
 
-    ghost lawful = { first_of (Prim.search rules, Prim.grind (arith, Self.row.coded.inj)) };
+    ghost lawful = { λ x. whole_lawful x.lo x.hi x.ends.0 };
 
     fn map(&self, value: i32, limits: (i32, i32)) -> Result<i32, Refusal> {
         if !allowed(limits) {

@@ -7,11 +7,8 @@ here : (c : goal.After-before-end) → Spans c.args.lo c.args.hi c.args.step c.b
 here c =
     spans _ _ _ _ _ _ _ c.requires.step.0 c.requires.ends.1.0 c.requires.ends.0 (omega (arith, ints)) (omega (arith, ints)) c.before-first.ensures c.before-end.ensures
 
-pub before-end-requires : goal.before-end-requires
-before-end-requires c = record { z = (omega (arith, ints), omega (arith, ints)); step = c.requires.step }
-
-pub overflow-sub-result : goal.overflow-sub-result
-overflow-sub-result c = (here c).ordered
+pub overflow_sub-result : goal.overflow_sub-result
+overflow_sub-result c = (here c).ordered
 
 pub returns : goal.returns
 returns c = sym (ap length (here c).are ∙ run_length _ _ _ _)

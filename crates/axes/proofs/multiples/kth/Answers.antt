@@ -41,28 +41,25 @@ difference_fits n s p g h =
     let e = difference_is n s p h in
     (rw e (omega (arith, ints)), rw e (omega (arith, ints)))
 
-pub before-end-requires : goal.before-end-requires
-before-end-requires c = record { z = (omega (arith, ints), omega (arith, ints)); step = c.requires.step }
-
-pub overflow-sub-end : goal.overflow-sub-end
-overflow-sub-end c = (after c).ordered
+pub overflow_sub-end : goal.overflow_sub-end
+overflow_sub-end c = (after c).ordered
 
 pub returns-then-k-end : goal.returns-then-k-end
 returns-then-k-end c =
     sym (ap (λ l. slice_get l c.args.k) (past c).are ∙ run_past _ _ _ _ c.args.k c.if-k-end.true)
 
-pub overflow-mul-at : goal.overflow-mul-at
-overflow-mul-at c = omega (arith, high c)
+pub overflow_mul-at : goal.overflow_mul-at
+overflow_mul-at c = omega (arith, high c)
 
-pub overflow-cast-result : goal.overflow-cast-result
-overflow-cast-result c = omega (arith, ints, high c)
+pub overflow_cast-result : goal.overflow_cast-result
+overflow_cast-result c = omega (arith, ints, high c)
 
-pub overflow-sub-result : goal.overflow-sub-result
-overflow-sub-result c = omega (arith, ints, high c)
+pub overflow_sub-result : goal.overflow_sub-result
+overflow_sub-result c = omega (arith, ints, high c)
 
-pub overflow-cast-result-3 : goal.overflow-cast-result-3
+pub overflow_cast-result-3 : goal.overflow_cast-result-3
 unfolding difference
-overflow-cast-result-3 c =
+overflow_cast-result-3 c =
     (difference_fits ((c.before-first.result + c.args.k) * c.args.step) c.args.step c.requires.step.1 (low c) (high c)).1
 
 pub returns : goal.returns

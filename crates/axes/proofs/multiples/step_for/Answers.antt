@@ -20,11 +20,3 @@ returns-then-sparse c =
 pub loop-step-preserved : goal.loop-step-preserved
 loop-step-preserved c =
     c.loop-step.invariant ∙ keys_next steps c.loop-step.step-index c.args.most _ _ (omega arith) (leb-false _ _ (sym c.sparse.ensures ∙ c.if-sparse.false))
-
-pub returns : goal.returns
-returns c =
-    let f = c.ranges.lo in
-    let g = c.ranges.hi in
-    let h = simp to_z-of_z at c.loop-step.invariant in
-    let i : c.loop-step.step-index ≡ 21 = omega arith in
-    h ∙ ap (λ (n : ℕ). keys_by (drop n steps) c.args.most c.args.lo c.args.hi) i

@@ -17,8 +17,8 @@ module _ (a b p w : ℤ) (i : Within a) (j : Within b) (h : pos 0 ≤ℤ p) (k :
   cut_fits : SFits w64 (quot_z ((b -ℤ a) *ℤ p) w)
   cut_fits = let s = share_bounds (b -ℤ a) p w h k in omega (arith, ints, clamps)
 
-pub overflow-mul-run : goal.overflow-mul-run
-overflow-mul-run c =
+pub overflow_mul-run : goal.overflow_mul-run
+overflow_mul-run c =
     let a = c.args.a in
     let b = c.args.b in
     let p = c.args.part in
@@ -66,15 +66,15 @@ is c =
 near : (c : goal.After-cut-away) → Between c.args.a c.args.b (c.args.a +ℤ c.cut-away.result)
 near c = subst (Between c.args.a c.args.b) (sym (is c)) (moved_inside c.args.a c.args.b c.args.part c.args.whole c.requires.part.0 c.requires.part.1)
 
-pub overflow-add-result : goal.overflow-add-result
-overflow-add-result c =
+pub overflow_add-result : goal.overflow_add-result
+overflow_add-result c =
     let n = near c in
     let i = c.requires.limits.0 in
     let j = c.requires.limits.1 in
     omega (arith, ints, clamps)
 
-pub overflow-cast-result-2 : goal.overflow-cast-result-2
-overflow-cast-result-2 c =
+pub overflow_cast-result-2 : goal.overflow_cast-result-2
+overflow_cast-result-2 c =
     let n = near c in
     let i = c.requires.limits.0 in
     let j = c.requires.limits.1 in

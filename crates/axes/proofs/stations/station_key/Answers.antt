@@ -5,4 +5,4 @@ use Rattle.axes.proofs.stations.station_key.Goals as goal
 
 pub returns : goal.returns
 returns c =
-    c.centre-at.ensures ∙ centres_kth c.args.n c.in-ok-s.s c.args.k ∙ sym (ap (λ l. slice_get l c.args.k) c.in-ok-s.ensures.2)
+    c.centre_at.ensures ∙ centres_kth c.args.n c.in_ok-s.s c.args.k ∙ sym (ap (λ l. slice_get l c.args.k) c.in_ok-s.ensures.2)

@@ -10,8 +10,8 @@ returns-then-n-lt10 t c =
     let l = digit_length c.args.n c.if-n-lt10.true in
     record { end = omega arith; text = digit_put c.args.out.now c.args.at c.args.n _ (omega arith) c.if-n-lt10.true refl }
 
-pub write-digits-k-requires : goal.write-digits-k-requires
-write-digits-k-requires t c =
+pub write_digits-k-requires : goal.write_digits-k-requires
+write_digits-k-requires t c =
     let small : c.args.n < 2 ^ 64 = omega arith in
     let l = last_length c.args.n c.if-n-lt10.false small in
     (omega arith, omega arith)
@@ -22,8 +22,8 @@ bounds-out-k t c =
     let l = last_length c.args.n c.if-n-lt10.false small in
     omega arith
 
-pub overflow-add-result-2 : goal.overflow-add-result-2
-overflow-add-result-2 t c =
+pub overflow_add-result-2 : goal.overflow_add-result-2
+overflow_add-result-2 t c =
     let small : c.args.n < 2 ^ 64 = omega arith in
     let l = last_length c.args.n c.if-n-lt10.false small in
     omega arith
@@ -34,5 +34,5 @@ returns t c =
     let l = last_length c.args.n c.if-n-lt10.false small in
     record {
       end = omega arith;
-      text = last_put c.write-digits-k.new.out (take c.args.at c.args.out.now) c.write-digits-k.result c.args.n _ (omega arith) c.if-n-lt10.false small refl c.write-digits-k.ensures.text;
+      text = last_put c.write_digits-k.new.out (take c.args.at c.args.out.now) c.write_digits-k.result c.args.n _ (omega arith) c.if-n-lt10.false small refl c.write_digits-k.ensures.text;
     }

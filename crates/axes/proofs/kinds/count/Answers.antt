@@ -1,6 +1,0 @@
-use Rattle.std.proofs.Common.{sym, ◌∙◌}
-use lib.ListN.{length-map}
-use Rattle.axes.proofs.kinds.count.Goals as goal
-
-pub returns : goal.returns
-returns g c = λ make. c.key-count.ensures ∙ sym (length-map _ make)

@@ -9,7 +9,7 @@ use Rattle.size.specs.declared.refusal.Refusal.{Refusal}
 use Rattle.size.specs.declared.refusal.Refusal.TheVariants.{Device}
 use Rattle.backend.specs.Marks.{SMark}
 use Rattle.backend.specs.Devices.{Answers, Model, later, advanced}
-use Rattle.backend.specs.Passes.{Fed, step, run, unless, taken}
+use Rattle.backend.specs.Passes.{Fed, step, run, taken}
 
 -- What a pass that answers r has put, and would put with more marks after its own.
 abbrev Ran : Answers → ℕ → List SMark → Result ℕ Refusal → Type 0

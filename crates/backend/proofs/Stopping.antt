@@ -1,10 +1,10 @@
 -- A pass stops at the first mark that is refused.
-use Rattle.std.proofs.Common.{◌≡◌, ℕ, zero, suc, ◌+◌, ◌<◌, ◌⊎◌, List, [], ◌∷◌, length, get_or, take, Some, None, Ok, Err, Option, sym, refl, ap, ◌∙◌, inl, inr, arith}
+use Rattle.std.proofs.Common.{◌≡◌, ℕ, zero, suc, ◌+◌, ◌<◌, ◌⊎◌, List, [], ◌∷◌, length, get_or, take, Some, None, Ok, Err, Option, refl, ap, ◌∙◌, inl, inr, arith}
 use Rattle.size.specs.declared.refusal.Refusal.{Refusal}
 use Rattle.size.specs.declared.refusal.Refusal.TheVariants.{Device}
 use Rattle.backend.specs.Marks.{SMark, end}
 use Rattle.backend.specs.Devices.{Answers, Model, advanced, later}
-use Rattle.backend.specs.Passes.{EveryPass, Fed, Goes, Stops, Takes, run, step, taken, unless}
+use Rattle.backend.specs.Passes.{EveryPass, Fed, Goes, Stops, Takes, run, taken}
 
 -- the first is taken, and of the rest those before k
 takes_more : (f : Answers) (m : SMark) (ms : List SMark) (k : ℕ) → f [] m ≡ None → Takes (later f (m ∷ [])) ms k → (i : ℕ) → i < k + 1 → f (take i (m ∷ ms)) (get_or (m ∷ ms) i end) ≡ None

@@ -26,7 +26,7 @@ fn refused(number: u8, put: u32) -> Refusal
 /// Puts one mark, as a pass of its own: `put` marks were put before it, and the answer counts on from there.
 /// Refused with 7 where the device refuses the mark.
 pub fn feed<D: Device>(d: &mut D, put: u32, m: Mark) -> Result<usize, Refusal>
-    ensures { Fed put (mark_of m.entry ∷ []) (model d.old) result (model d.new) }
+    ensures { Fed put (mark_of m.entry ∷ []) (D.model d.old) result (D.model d.new) }
 {
     match d.put(m) {
         Ok(()) => Ok(counted(put)),

@@ -1,11 +1,11 @@
 -- Reading answers exactly the streams.
-use Rattle.std.proofs.Common.{◌≡◌, ℕ, zero, suc, ◌+◌, ◌-◌, ◌<◌, ◌≤◌, Bool, true, false, cond, ◌&&◌, eqb, leb, ◌⊎◌, List, [], ◌∷◌, ◌++◌, length, get_or, take, drop, Some, None, Ok, Err, Option, Result, sym, refl, ap, ◌∙◌, subst, inl, inr, arith, w8, Fits}
-use Rattle.std.proofs.lemmas.List.{append_assoc, append-nil, take_at, drop_at, length-append, length-drop, drop-drop, get_or-drop}
+use Rattle.std.proofs.Common.{◌≡◌, ℕ, zero, suc, ◌+◌, ◌<◌, ◌≤◌, Bool, true, false, cond, List, [], ◌∷◌, ◌++◌, length, get_or, take, drop, Some, None, Ok, Err, Option, Result, sym, refl, ap, ◌∙◌, inl, inr, arith}
+use Rattle.std.proofs.lemmas.List.{drop_at, length-append, drop-drop, get_or-drop}
 use Rattle.std.proofs.lemmas.Bool.Decides.{nat_tests}
 use Rattle.backend.specs.Marks.{SMark}
 use Rattle.codec.specs.Format.{AllInRange, InRange, encode, encodes, header, stream}
 use Rattle.codec.specs.Reading.{first, onto, scan, headed, read}
-use Rattle.codec.specs.Exact.{Begins, Exact, NoHeader, NoMarkIn, Right}
+use Rattle.codec.specs.Exact.{Begins, Exact, NoMarkIn, Right}
 use Rattle.codec.specs.Seen.{mark_in}
 use Rattle.codec.proofs.Firsts.{Bytes, first-encode, first_only, first_range, one}
 use Rattle.codec.proofs.Scans.{encode_some, read-stream, scan_mark, scan_nil, scan_none}

@@ -1,9 +1,9 @@
 -- The mark that bytes begin with.
-use Rattle.std.proofs.Common.{◌≡◌, ℕ, suc, ◌+◌, ◌-◌, ◌*◌, ◌/◌, ◌%◌, ◌^◌, ◌<◌, ◌≤◌, Bool, true, false, cond, ◌&&◌, eqb, leb, ◌⊎◌, List, [], ◌∷◌, ◌++◌, length, get_or, take, drop, ℤ, Some, None, Option, sym, refl, ap, ◌∙◌, inl, inr, arith, w8, w32, Fits, SFits, to_z, of_z}
+use Rattle.std.proofs.Common.{◌≡◌, ℕ, suc, ◌+◌, ◌*◌, ◌/◌, ◌%◌, ◌^◌, ◌<◌, ◌≤◌, Bool, true, false, cond, ◌&&◌, eqb, leb, ◌⊎◌, List, [], ◌∷◌, ◌++◌, length, get_or, take, drop, ℤ, Some, None, refl, ap, ◌∙◌, inl, inr, arith, w8, w32, Fits, SFits, to_z, of_z}
 use mir.Facts.{Fits-of_z}
 use borrow.Author.Gap.{read_sfits}
 use Rattle.std.proofs.lemmas.Int.{of_z-to_z, to_z-of_z}
-use Rattle.std.proofs.lemmas.List.{append_assoc, take_at, drop_more, take-append-drop, drop-drop, length-append, length-drop, length-take-le}
+use Rattle.std.proofs.lemmas.List.{take_at, drop_more, take-append-drop, drop-drop, length-append, length-drop, length-take-le}
 use Rattle.std.proofs.lemmas.Bool.Decides.{nat_tests}
 use Rattle.backend.specs.Marks.{SMark, line, text, end}
 use Rattle.codec.specs.Format.{InRange, be32, encode}

@@ -1,7 +1,7 @@
 -- Bytes taken apart from the front, as the code does.
-use Rattle.std.proofs.Common.{◌≡◌, ℕ, ◌+◌, ◌-◌, ◌≤◌, List, [], ◌∷◌, ◌++◌, length, get_or, take, drop, ℤ, sym, refl, ap, ◌∙◌, arith}
+use Rattle.std.proofs.Common.{◌≡◌, ℕ, ◌+◌, ◌-◌, ◌≤◌, List, ◌∷◌, ◌++◌, length, get_or, take, drop, ℤ, sym, refl, ap, ◌∙◌, arith}
 use Rattle.std.proofs.lemmas.List.{take_rest, take-append-drop, length-append}
-use Rattle.backend.specs.Marks.{SMark, line, text, end}
+use Rattle.backend.specs.Marks.{line, text, end}
 use Rattle.codec.specs.Format.{be32, encode}
 use Rattle.codec.specs.Reading.{int}
 use Rattle.codec.specs.Exact.{NoMarkIn}

@@ -1,5 +1,5 @@
 -- The numbers of anchors and turns, and marks of the code in range.
-use Rattle.std.proofs.Common.{◌≡◌, ℕ, ◌+◌, ◌*◌, ◌≤◌, refl, arith}
+use Rattle.std.proofs.Common.{◌≤◌, arith}
 use Rattle.backend.specs.declared.text_anchor.HPos.{HPos}
 use Rattle.backend.specs.declared.text_anchor.HPos.TheVariants.{Left, Right}
 use Rattle.backend.specs.declared.text_anchor.HPos.TheVariants.{Center as Middle}

@@ -1,11 +1,11 @@
 -- Marks one after another.
-use Rattle.std.proofs.Common.{◌≡◌, ℕ, zero, suc, ◌+◌, ◌-◌, ◌<◌, ◌≤◌, Bool, true, false, cond, ◌&&◌, eqb, leb, ◌⊎◌, List, [], ◌∷◌, ◌++◌, length, get_or, take, drop, Some, None, Ok, Err, Option, Result, sym, refl, ap, ◌∙◌, inl, inr, arith, w8, Fits}
-use Rattle.std.proofs.lemmas.List.{append_assoc, append-nil, take_at, drop_at, length-append, length-drop, drop-drop, get_or-drop, take_all, drop_all}
+use Rattle.std.proofs.Common.{◌≡◌, ℕ, zero, suc, ◌+◌, ◌-◌, ◌≤◌, Bool, true, false, cond, List, [], ◌∷◌, ◌++◌, length, drop, Some, None, Ok, Err, Option, Result, sym, refl, ap, ◌∙◌, arith}
+use Rattle.std.proofs.lemmas.List.{append_assoc, append-nil, drop_at, length-append}
 use Rattle.std.proofs.lemmas.Bool.Decides.{nat_tests}
 use Rattle.backend.specs.Marks.{SMark, line, text, end}
-use Rattle.codec.specs.Format.{AllInRange, InRange, encode, encodes, header, stream}
+use Rattle.codec.specs.Format.{AllInRange, InRange, encode, encodes, stream}
 use Rattle.codec.specs.Reading.{first, onto, scan, headed, marks_or, read}
-use Rattle.codec.proofs.Firsts.{Bytes, first-encode, first_only, first_range}
+use Rattle.codec.proofs.Firsts.{first-encode, first_range}
 
 pub encode_some : (m : SMark) → 1 ≤ length (encode m)
 encode_some (line x0 y0 x1 y1 ink) = omega arith

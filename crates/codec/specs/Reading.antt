@@ -1,9 +1,9 @@
 -- What a reader answers of bytes, and that this is right.
-use Rattle.std.specs.Prelude.{◌≡◌, ℕ, zero, suc, ◌+◌, ◌-◌, ◌*◌, ◌<◌, Bool, cond, ◌&&◌, ◌⊎◌, List, [], ◌∷◌, ◌++◌, length, take, drop, ℤ, Some, None, Ok, Err, Option, Result, ◌==◌, nat_le, slice_index}
+use Rattle.std.specs.Prelude.{ℕ, zero, suc, ◌+◌, ◌-◌, ◌*◌, Bool, cond, ◌&&◌, List, [], ◌∷◌, length, take, drop, ℤ, Some, None, Ok, Err, Option, Result, ◌==◌, nat_le, slice_index}
 use Rattle.std.specs.Int.{w32}
 use Rattle.std.proofs.Common.{to_z}
 use Rattle.backend.specs.Marks.{SMark, line, text, end}
-use Rattle.codec.specs.Format.{AllInRange, InRange, encode, encodes, header, stream}
+use Rattle.codec.specs.Format.{encode}
 
 -- the number that the four bytes from k on say
 abbrev pub int : List ℕ → ℕ → ℤ

@@ -4,5 +4,5 @@ use Rattle.codec.proofs.parse.first_mark.Goals as goal
 
 pub returns : goal.returns
 returns c =
-    let b = c.read-any.ensures in
-    record { begins = b; first = begins_is c.args.input.now (seen c.read-any.result) c.type-inv.input b }
+    let b = c.read_any.ensures in
+    record { begins = b; first = begins_is c.args.input.now (seen c.read_any.result) c.type_inv.input b }

@@ -7,6 +7,6 @@ use Rattle.codec.proofs.parse.past_header.Goals as goal
 pub returns : goal.returns
 returns c =
     let bs = c.args.input.now in
-    let is = c.is-header.ensures in
+    let is = c.is_header.ensures in
     let h : headed bs ≡ true = grind (arith, nat_tests) in
     rw h (ap Some (take_rest bs 5))

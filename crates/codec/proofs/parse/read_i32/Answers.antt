@@ -7,4 +7,4 @@ pub returns : goal.returns
 returns c =
     let r = c.number.result in
     let f : SFits w32 r = search rules in
-    read_four c.args.input.now (to_z w32 (of_z w32 r)) c.type-inv.input (search rules) (to_z-of_z w32 r f ∙ c.number.ensures)
+    read_four c.args.input.now (to_z w32 (of_z w32 r)) c.type_inv.input (search rules) (to_z-of_z w32 r f ∙ c.number.ensures)

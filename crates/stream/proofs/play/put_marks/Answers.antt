@@ -7,35 +7,35 @@ use Rattle.stream.proofs.Playing.{never_stops, next_is, put_all, put_halt, put_t
 use Rattle.stream.proofs.play.put_marks.Goals as goal
 
 pub loop-shape-init : goal.loop-shape-init
-loop-shape-init g c = (reached_start c.args.input.now (left_in c.in-ok-reader.reader) c.in-ok-reader.ensures, fed_start _ _ _ _)
+loop-shape-init g c = (reached_start c.args.input.now (left_in c.in_ok-reader.reader) c.in_ok-reader.ensures, fed_start _ _ _ _)
 
-pub returns-in-err-shape : goal.returns-in-err-shape
-returns-in-err-shape g c = absurd (never_stops (marks_or (read c.args.input.now)) c.loop-shape.invariant.0 c.requires c.in-err-shape.ensures.answer)
+pub returns-in_err-shape : goal.returns-in_err-shape
+returns-in_err-shape g c = absurd (never_stops (marks_or (read c.args.input.now)) c.loop-shape.invariant.0 c.requires c.in_err-shape.ensures.answer)
 
-pub returns-in-err-put : goal.returns-in-err-put
-returns-in-err-put g c =
+pub returns-in_err-put : goal.returns-in_err-put
+returns-in_err-put g c =
     let l = left_in c.loop-shape.reader in
     let l' = left_in c.next-mark.new.self in
-    let x = next_is l.rest l'.rest c.in-Some.is c.in-ok-shape.ensures.right in
-    put_halt c.from-residual-in-err-put.result (shape_value c.in-Some.shape) l'.rest c.requires c.loop-shape.invariant x c.from-residual-in-err-put.ensures.1 c.in-err-put.ensures
+    let x = next_is l.rest l'.rest c.in-Some.is c.in_ok-shape.ensures.right in
+    put_halt c.from-residual-in_err-put.result (shape_value c.in-Some.shape) l'.rest c.requires c.loop-shape.invariant x c.from-residual-in_err-put.ensures.1 c.in_err-put.ensures
 
 pub loop-shape-smaller : goal.loop-shape-smaller
 loop-shape-smaller g c =
     let l = left_in c.loop-shape.reader in
     let l' = left_in c.next-mark.new.self in
-    let x = next_is l.rest l'.rest c.in-Some.is c.in-ok-shape.ensures.right in
+    let x = next_is l.rest l'.rest c.in-Some.is c.in_ok-shape.ensures.right in
     shorter l.rest l'.rest _ x.0
 
 pub loop-shape-preserved : goal.loop-shape-preserved
 loop-shape-preserved g c =
     let l = left_in c.loop-shape.reader in
     let l' = left_in c.next-mark.new.self in
-    let x = next_is l.rest l'.rest c.in-Some.is c.in-ok-shape.ensures.right in
-    put_turn l' (shape_value c.in-Some.shape) c.requires c.loop-shape.invariant (ap (λ (k : Left). k.all) c.in-ok-shape.ensures.after) x c.in-ok-put.ensures
+    let x = next_is l.rest l'.rest c.in-Some.is c.in_ok-shape.ensures.right in
+    put_turn l' (shape_value c.in-Some.shape) c.requires c.loop-shape.invariant (ap (λ (k : Left). k.all) c.in_ok-shape.ensures.after) x c.in_ok-put.ensures
 
 pub returns : goal.returns
 returns g c =
     let l = left_in c.loop-shape.reader in
     let l' = left_in c.next-mark.new.self in
-    let x = next_is l.rest l'.rest c.in-default.is c.in-ok-shape.ensures.right in
+    let x = next_is l.rest l'.rest c.in-default.is c.in_ok-shape.ensures.right in
     put_all c.requires c.loop-shape.invariant x.0

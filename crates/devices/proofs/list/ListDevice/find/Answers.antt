@@ -1,4 +1,4 @@
-use Rattle.std.proofs.Common.{◌≡◌, ◌≤◌, map, length, take, sym, arith}
+use Rattle.std.proofs.Common.{◌≤◌, map, length, take, sym, arith}
 use Rattle.std.proofs.lemmas.Option.{slice_get_past}
 use Rattle.devices.specs.Records.{mark_in}
 use Rattle.devices.proofs.Keeping.{marks_length}

@@ -1,16 +1,16 @@
-use Rattle.std.proofs.Common.{◌≡◌, ◌+◌, ◌-◌, take, drop, Some, sym, ap, ◌∙◌, arith, rules}
+use Rattle.std.proofs.Common.{◌≡◌, ◌+◌, ◌-◌, take, drop, Some, ap, ◌∙◌, arith, rules}
 use Rattle.backend.specs.Marks.{text_of}
 use Rattle.devices.proofs.Keeping.{text_ends, mark_at}
 use Rattle.devices.proofs.list.ListDevice.shape_at.Goals as goal
 
-pub overflow-add-end : goal.overflow-add-end
-overflow-add-end c =
+pub overflow_add-end : goal.overflow_add-end
+overflow_add-end c =
     let d = c.args.self.now in
     let h = text_ends d.filled d.used c.args.k d.records.now d.inside d.few c.requires _ c.in-Text.is in
     search rules
 
-pub slice-bounds-result-end : goal.slice-bounds-result-end
-slice-bounds-result-end c =
+pub slice_bounds-result-end : goal.slice_bounds-result-end
+slice_bounds-result-end c =
     let d = c.args.self.now in
     let h = text_ends d.filled d.used c.args.k d.records.now d.inside d.few c.requires _ c.in-Text.is in
     search rules

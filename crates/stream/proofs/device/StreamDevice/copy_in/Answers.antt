@@ -7,8 +7,8 @@ use Rattle.stream.proofs.device.StreamDevice.copy_in.Goals as goal
 pub loop-i-init : goal.loop-i-init
 loop-i-init c = (refl, refl, refl, paste_none c.args.self.now.out.now c.args.at c.args.bytes.now)
 
-pub invariant-of-self : goal.invariant-of-self
-invariant-of-self c =
+pub invariant_of-self : goal.invariant_of-self
+invariant_of-self c =
     let d = c.loop-i.self in
     let used = c.loop-i.invariant.1 in
     (simp length-set d.short, (d.narrow, (whole_set d.used d.out.now _ _ d.letters (omega arith) d.whole, tt)))

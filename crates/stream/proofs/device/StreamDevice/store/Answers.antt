@@ -6,31 +6,31 @@ use Rattle.devices.proofs.Keeping.{placed-length}
 use Rattle.stream.proofs.Appending.{same_written, two_placed, whole_grown}
 use Rattle.stream.proofs.device.StreamDevice.store.Goals as goal
 
-pub copy-in-requires-2 : goal.copy-in-requires-2
-copy-in-requires-2 c =
+pub copy_in-requires-2 : goal.copy_in-requires-2
+copy_in-requires-2 c =
     let d = c.args.self.now in
     let h = c.args.head.now in
-    let e = c.copy-in.ensures in
+    let e = c.copy_in.ensures in
     let used = e.used in
     let room = c.requires.room in
     let n = ap length e.out ∙ length-paste d.out.now d.used h (length h) (omega arith) (omega arith) in
     (omega arith, omega arith)
 
-pub invariant-of-self : goal.invariant-of-self
-invariant-of-self c =
+pub invariant_of-self : goal.invariant_of-self
+invariant_of-self c =
     let d = c.args.self.now in
     let h = c.args.head.now in
     let t = c.args.text.now in
     let room = c.requires.room in
     let short = d.short in
     let n = length-append h t in
-    let out = two_placed d.out.now _ c.copy-in-2.new.self.out.now h t d.used c.copy-in.ensures.out c.copy-in-2.ensures.out short in
+    let out = two_placed d.out.now _ c.copy_in-2.new.self.out.now h t d.used c.copy_in.ensures.out c.copy_in-2.ensures.out short in
     let long = ap length out ∙ placed-length d.out.now d.used (h ++ t) (omega arith) in
-    let letters = c.copy-in-2.ensures.letters ∙ c.copy-in.ensures.letters in (
+    let letters = c.copy_in-2.ensures.letters ∙ c.copy_in.ensures.letters in (
       omega arith,
       (
-        c.copy-in-2.new.self.narrow,
-        (whole_grown d.out.now c.copy-in-2.new.self.out.now d.used _ d.letters c.copy-in-2.new.self.letters (h ++ t) short c.requires.begun letters d.whole c.requires.mark out (omega arith), tt),
+        c.copy_in-2.new.self.narrow,
+        (whole_grown d.out.now c.copy_in-2.new.self.out.now d.used _ d.letters c.copy_in-2.new.self.letters (h ++ t) short c.requires.begun letters d.whole c.requires.mark out (omega arith), tt),
       ),
     )
 
@@ -41,9 +41,9 @@ returns c =
     let t = c.args.text.now in
     let short = d.short in
     let n = length-append h t in
-    let out = two_placed d.out.now _ c.copy-in-2.new.self.out.now h t d.used c.copy-in.ensures.out c.copy-in-2.ensures.out short in
+    let out = two_placed d.out.now _ c.copy_in-2.new.self.out.now h t d.used c.copy_in.ensures.out c.copy_in-2.ensures.out short in
     let used : d.used + length h + length t ≡ d.used + length (h ++ t) = omega arith in
     record {
-      held = same_written out used (c.copy-in-2.ensures.letters ∙ c.copy-in.ensures.letters);
-      place = ap (λ x. x ∷ []) (c.copy-in-2.ensures.place ∙ c.copy-in.ensures.place);
+      held = same_written out used (c.copy_in-2.ensures.letters ∙ c.copy_in.ensures.letters);
+      place = ap (λ x. x ∷ []) (c.copy_in-2.ensures.place ∙ c.copy_in.ensures.place);
     }

@@ -1,7 +1,7 @@
-use Rattle.std.proofs.Common.{◌≡◌, ℕ, drop, sym, refl, ap, ◌∙◌, arith, rules}
+use Rattle.std.proofs.Common.{sym, refl, ◌∙◌, arith, rules}
 use Rattle.std.proofs.lemmas.Int.{to_z-of_z}
 use Rattle.std.proofs.lemmas.Bool.{leb-true, leb-false}
-use Rattle.axes.specs.Whole.{whole_keys, keys_by, steps}
+use Rattle.axes.specs.Whole.{whole_keys, steps}
 use Rattle.axes.specs.Keys.{keys_next, keys_here}
 use Rattle.axes.proofs.multiples.step_for.Goals as goal
 

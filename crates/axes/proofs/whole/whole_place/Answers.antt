@@ -10,6 +10,21 @@ use Rattle.axes.proofs.whole.whole_place.Goals as goal
 apart_is : (x y : ℤ) → SFits w32 x → SFits w32 y → to_z w64 (of_z w64 (to_z w64 (of_z w64 (to_z w32 (of_z w32 x))) -ℤ to_z w64 (of_z w64 (to_z w32 (of_z w32 y))))) ≡ x -ℤ y
 apart_is x y f g = omega (arith, ints)
 
+pub moved-requires : goal.moved-requires
+moved-requires c =
+    let fl = c.ranges.lo in
+    let fh = c.ranges.hi in
+    let fv = c.ranges.v in
+    let fa = c.ranges.a in
+    let fb = c.ranges.b in
+    let fc : SFits w32 c.clamp-held.result = record { sfits = c.clamp-held.type_inv } in
+    let e = c.requires.ends.1 in
+    simp apart_is record {
+      limits = simp to_z-of_z c.requires.limits;
+      part = (omega (arith, ints), omega (arith, ints));
+      whole = (omega (arith, ints), omega (arith, ints));
+    }
+
 pub returns : goal.returns
 returns c =
     let lo = c.args.lo in

@@ -22,12 +22,6 @@ bounds-out-k t c =
     let l = last_length c.args.n c.if-n-lt10.false small in
     omega arith
 
-pub overflow_add-result-2 : goal.overflow_add-result-2
-overflow_add-result-2 t c =
-    let small : c.args.n < 2 ^ 64 = omega arith in
-    let l = last_length c.args.n c.if-n-lt10.false small in
-    omega arith
-
 pub returns : goal.returns
 returns t c =
     let small : c.args.n < 2 ^ 64 = omega arith in

@@ -1,5 +1,5 @@
 -- The stream device: one mark more.
-use Rattle.std.proofs.Common.{◌≡◌, ℕ, ◌+◌, ◌-◌, ◌<◌, ◌≤◌, true, false, ltb, List, [], ◌∷◌, ◌++◌, length, take, drop, set, is_some, Some, None, Ok, Err, Option, Result, sym, refl, ap, ◌∙◌, subst, zero-le, arith, w32, SFits}
+use Rattle.std.proofs.Common.{◌≡◌, ℕ, ◌+◌, ◌-◌, ◌≤◌, true, false, ltb, List, [], ◌∷◌, ◌++◌, length, take, drop, set, is_some, Some, None, Ok, Err, Option, Result, sym, refl, ap, ◌∙◌, zero-le, arith, w32, SFits}
 use mathlib.Core.Path.{fun_ext}
 use Rattle.std.proofs.lemmas.List.{append_assoc, length-append, length-take-le, take_at, take-set-le}
 use Rattle.std.proofs.lemmas.List.Edits.{paste_all, paste-paste, take-paste}
@@ -9,14 +9,14 @@ use Rattle.backend.specs.declared.shape.Lettering.{Lettering}
 use Rattle.backend.specs.Shapes.{lettering_ok, stroke_ok}
 use Rattle.backend.specs.Marks.{SMark, end, line, line_of, text, text_of}
 use Rattle.backend.specs.Devices.{Answers, Model, Put, advanced, later}
-use Rattle.devices.specs.Lists.{bytes_in, on_ok, told}
+use Rattle.devices.specs.Lists.{bytes_in, told}
 use Rattle.devices.specs.Placed.{placed}
 use Rattle.devices.proofs.Keeping.{placed-length}
 use base.Fml.{GName}
 use Rattle.std.proofs.lemmas.Bool.Decides.{nat_tests}
 use Rattle.codec.specs.Format.{AllInRange, InRange, encode, encodes, header, stream}
 use Rattle.stream.specs.Openings.{marks_in, opened}
-use Rattle.stream.specs.Written.{Encoded, Written, answers_of, front, grown, room_for, sized, sized_bounded, stream_model, verdict}
+use Rattle.stream.specs.Written.{Encoded, Written, answers_of, front, grown, on_ok, room_for, sized, sized_bounded, stream_model, verdict}
 use Rattle.codec.proofs.Ranges.{anchor_small, turn_small}
 use Rattle.codec.proofs.Scans.{encodes_more, range_more, read_range, read-stream}
 use Rattle.codec.specs.Reading.{marks_or}

@@ -1,5 +1,5 @@
 -- What was written reads back.
-use Rattle.std.proofs.Common.{◌≡◌, ℕ, ◌+◌, ◌-◌, ◌≤◌, Bool, true, false, cond, ◌&&◌, ltb, leb, List, [], ◌∷◌, ◌++◌, length, take, Some, None, Ok, Err, Option, Result, sym, refl, ap, ◌∙◌, subst, zero-le, arith}
+use Rattle.std.proofs.Common.{◌≡◌, ℕ, ◌+◌, ◌-◌, ◌≤◌, Bool, true, false, cond, ◌&&◌, ltb, leb, List, [], ◌∷◌, ◌++◌, length, Some, None, Ok, Err, Option, Result, sym, refl, ap, ◌∙◌, subst, zero-le, arith}
 use Rattle.std.proofs.lemmas.List.{append-nil, append_assoc}
 use Rattle.std.proofs.lemmas.Bool.Decides.{nat_tests}
 use Rattle.size.specs.declared.refusal.Refusal.{Refusal}
@@ -7,13 +7,12 @@ use Rattle.size.specs.declared.refusal.Refusal.TheVariants.{Scale, Short}
 use Rattle.backend.specs.Marks.{SMark}
 use Rattle.backend.specs.Devices.{Model}
 use Rattle.devices.specs.Lists.{bytes_in}
-use Rattle.devices.specs.Placed.{placed}
 use Rattle.devices.proofs.Keeping.{placed-length}
 use Rattle.codec.specs.Format.{InRange, encode, header, stream}
 use Rattle.codec.specs.Reading.{read}
 use Rattle.stream.specs.Openings.{marks_in, opened}
 use Rattle.stream.specs.Plays.{Played}
-use Rattle.stream.specs.Written.{Written, answers_of, beginning, begun, front, grown, heard, lent, room_for, verdict}
+use Rattle.stream.specs.Written.{Written, answers_of, begun, front, grown, heard, lent, room_for}
 use Rattle.stream.specs.RoundTrips.{Made, RoundTrip, after_put, after_puts, if_taken, taken_of}
 use Rattle.codec.proofs.Scans.{read-stream}
 use Rattle.stream.proofs.Appending.{front_grown, marks_more, marks_range, marks_stream, whole_more}

@@ -1,11 +1,10 @@
 -- A reader's step: at the end, where none starts, and past a mark.
-use Rattle.std.proofs.Common.{◌≡◌, ℕ, ◌<◌, List, [], ◌∷◌, ◌++◌, length, drop, Some, None, Ok, Err, sym, refl, ap, ◌∙◌, arith}
+use Rattle.std.proofs.Common.{◌≡◌, ℕ, ◌<◌, List, [], ◌∷◌, length, Some, None, Ok, Err, sym, refl, ap, arith}
 use Rattle.size.specs.declared.refusal.Refusal.TheVariants.{NoMark}
 use Rattle.backend.specs.Marks.{SMark}
-use Rattle.codec.specs.Format.{encode}
 use Rattle.codec.specs.Reading.{first}
 use Rattle.codec.specs.Exact.{Begins}
-use Rattle.stream.specs.Readers.{Left, Next, after_next, next_of, past}
+use Rattle.stream.specs.Readers.{Left, Next, after_next, next_of}
 use Rattle.codec.proofs.Exactly.{begins_first}
 
 abbrev of : List ℕ → List ℕ → Left

@@ -1,5 +1,5 @@
 -- A stream in a slice, and the device that it is.
-use Rattle.std.specs.Prelude.{◌≡◌, ℕ, ◌+◌, ◌-◌, ◌*◌, ◌<◌, ◌≤◌, Bool, true, false, cond, ◌&&◌, List, [], ◌∷◌, ◌++◌, length, take, Some, None, Ok, Err, Option, Result, nat_le, nat_lt, refl}
+use Rattle.std.specs.Prelude.{◌≡◌, ℕ, ◌+◌, ◌-◌, ◌*◌, ◌≤◌, Bool, true, false, cond, ◌&&◌, List, length, take, Some, None, Ok, Err, Option, Result, nat_le, nat_lt, refl}
 use Rattle.std.proofs.Common.{mul-le-mul, arith, leb-true}
 use Rattle.std.specs.Borrow.{GName}
 use Rattle.std.specs.Option as options
@@ -78,3 +78,8 @@ heard w = elim w.letters [ Some c ↦ Ok (marks_in (front w)) | None ↦ Err 0 ]
 
 abbrev pub stream_model : Written → List GName → Model
 stream_model w place = record { marks = marks_in (front w); answer = answers_of w; extent = sized w.letters; bounded = sized_bounded w.letters; place = place }
+
+-- one of two, by whether the answer is a refusal
+abbrev pub on_ok : {U E X : Type 0} → Result U E → X → X → X
+on_ok (Ok _) x y = x
+on_ok (Err e) x y = y

@@ -23,7 +23,7 @@ fn tally(input: &[u8]) -> Result<usize, Refusal>
 // Puts the marks of bytes that are a stream.
 fn put_marks<D: Device>(input: &[u8], device: &mut D) -> Result<usize, Refusal>
     requires { read input.now ≡ Ok (marks_or (read input.now)) }
-    ensures { Played (read input.now) (model device.old) result (model device.new) }
+    ensures { Played (read input.now) (D.model device.old) result (D.model device.new) }
 {
     let mut reader = StreamReader::new(input)?;
     let mut put = 0;
@@ -52,7 +52,7 @@ pub fn count(input: &[u8]) -> Result<usize, Refusal>
 
 // Reads the bytes once to see that they are a stream, and again to put its marks.
 fn play_checked<D: Device>(input: &[u8], device: &mut D) -> Result<usize, Refusal>
-    ensures played { Played (read input.now) (model device.old) result (model device.new) }
+    ensures played { Played (read input.now) (D.model device.old) result (D.model device.new) }
     ensures exact { Exact input.now }
 {
     count(input)?;
@@ -62,7 +62,7 @@ fn play_checked<D: Device>(input: &[u8], device: &mut D) -> Result<usize, Refusa
 /// Puts every mark of a stream onto a device, up to the first that it refuses. Bytes that are no stream are refused with 10 and the
 /// place, and then nothing is put.
 pub fn play<D: Device>(input: &[u8], device: &mut D) -> Result<usize, Refusal>
-    ensures played { Played (read input.now) (model device.old) result (model device.new) }
+    ensures played { Played (read input.now) (D.model device.old) result (D.model device.new) }
     ensures exact { Exact input.now }
 {
     play_checked(input, device)

@@ -15,7 +15,7 @@ fn line_of(stroke: Stroke) -> Line
 {
     match Line::new(stroke) {
         Ok(line) => line,
-        Err(_) => unreachable(),
+        Err(_) => unreachable!(),
     }
 }
 
@@ -26,7 +26,7 @@ fn text_of(lettering: Lettering) -> Text
 {
     match Text::new(lettering) {
         Ok(text) => text,
-        Err(_) => unreachable(),
+        Err(_) => unreachable!(),
     }
 }
 
@@ -50,7 +50,7 @@ pub(crate) fn put_mark<D: Device>(
 ) -> Result<usize, Refusal>
     requires room { put + 1 < 2 ^ 64 }
     requires range { shape_ok shape ≡ true }
-    ensures { Fed put (shape_value shape.entry ∷ []) (model device.old) result (model device.new) }
+    ensures { Fed put (shape_value shape.entry ∷ []) (D.model device.old) result (D.model device.new) }
 {
     match device.put(mark_of(shape)) {
         Ok(()) => Ok(put + 1),

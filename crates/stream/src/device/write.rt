@@ -4,9 +4,9 @@ ghost use Rattle.backend.specs.Devices.{Put};
 ghost use Rattle.backend.specs.Marks.{end, line_of, mark_of, shape_value, text_of};
 ghost use Rattle.backend.specs.Shapes.{lettering_ok, shape_ok, stroke_ok};
 ghost use Rattle.codec.specs.Format.{encode};
-ghost use Rattle.stream.specs.Written.{Encoded, begun, beginning, front, grown, lent, room_for, stream_model};
+ghost use Rattle.stream.specs.Written.{Encoded, begun, beginning, front, grown, lent, on_ok, room_for, stream_model};
 ghost use Rattle.stream.specs.Openings.{opened};
-ghost use Rattle.devices.specs.Lists.{on_ok, told};
+ghost use Rattle.devices.specs.Lists.{told};
 ghost use Rattle.stream.specs.Streamed.{streamed, written_by};
 
 use crate::device::StreamDevice;

@@ -15,27 +15,27 @@ returns-in_err-shape g c = absurd (never_stops (marks_or (read c.args.input.now)
 pub returns-in_err-put : goal.returns-in_err-put
 returns-in_err-put g c =
     let l = left_in c.loop-shape.reader in
-    let l' = left_in c.next-mark.new.self in
+    let l' = left_in c.next_mark.new.self in
     let x = next_is l.rest l'.rest c.in-Some.is c.in_ok-shape.ensures.right in
-    put_halt c.from-residual-in_err-put.result (shape_value c.in-Some.shape) l'.rest c.requires c.loop-shape.invariant x c.from-residual-in_err-put.ensures.1 c.in_err-put.ensures
+    put_halt c.from_residual-in_err-put.result (shape_value c.in-Some.shape) l'.rest c.requires c.loop-shape.invariant x c.from_residual-in_err-put.ensures.1 c.in_err-put.ensures
 
 pub loop-shape-smaller : goal.loop-shape-smaller
 loop-shape-smaller g c =
     let l = left_in c.loop-shape.reader in
-    let l' = left_in c.next-mark.new.self in
+    let l' = left_in c.next_mark.new.self in
     let x = next_is l.rest l'.rest c.in-Some.is c.in_ok-shape.ensures.right in
     shorter l.rest l'.rest _ x.0
 
 pub loop-shape-preserved : goal.loop-shape-preserved
 loop-shape-preserved g c =
     let l = left_in c.loop-shape.reader in
-    let l' = left_in c.next-mark.new.self in
+    let l' = left_in c.next_mark.new.self in
     let x = next_is l.rest l'.rest c.in-Some.is c.in_ok-shape.ensures.right in
     put_turn l' (shape_value c.in-Some.shape) c.requires c.loop-shape.invariant (ap (λ (k : Left). k.all) c.in_ok-shape.ensures.after) x c.in_ok-put.ensures
 
 pub returns : goal.returns
 returns g c =
     let l = left_in c.loop-shape.reader in
-    let l' = left_in c.next-mark.new.self in
-    let x = next_is l.rest l'.rest c.in-default.is c.in_ok-shape.ensures.right in
+    let l' = left_in c.next_mark.new.self in
+    let x = next_is l.rest l'.rest c.in_default.is c.in_ok-shape.ensures.right in
     put_all c.requires c.loop-shape.invariant x.0

@@ -11,7 +11,11 @@ pub invariant_of-self : goal.invariant_of-self
 invariant_of-self c =
     let d = c.loop-i.self in
     let used = c.loop-i.invariant.1 in
-    (simp length-set d.short, (d.narrow, (whole_set d.used d.out.now _ _ d.letters (omega arith) d.whole, tt)))
+    record {
+      short = simp length-set d.short;
+      narrow = d.narrow;
+      whole = whole_set d.used d.out.now _ _ d.letters (omega arith) d.whole;
+    }
 
 pub loop-i-preserved : goal.loop-i-preserved
 loop-i-preserved c =

@@ -1,7 +1,6 @@
-use Rattle.std.proofs.Common.{◌≡◌, ◌+◌, [], ◌∷◌, ◌++◌, length, sym, refl, ap, ◌∙◌, arith}
+use Rattle.std.proofs.Common.{◌≡◌, ◌+◌, [], ◌∷◌, ◌++◌, length, ap, ◌∙◌, arith}
 use Rattle.std.proofs.lemmas.List.{length-append}
 use Rattle.std.proofs.lemmas.List.Edits.{length-paste}
-use Rattle.devices.specs.Placed.{placed}
 use Rattle.devices.proofs.Keeping.{placed-length}
 use Rattle.stream.proofs.Appending.{same_written, two_placed, whole_grown}
 use Rattle.stream.proofs.device.StreamDevice.store.Goals as goal
@@ -26,13 +25,12 @@ invariant_of-self c =
     let n = length-append h t in
     let out = two_placed d.out.now _ c.copy_in-2.new.self.out.now h t d.used c.copy_in.ensures.out c.copy_in-2.ensures.out short in
     let long = ap length out ∙ placed-length d.out.now d.used (h ++ t) (omega arith) in
-    let letters = c.copy_in-2.ensures.letters ∙ c.copy_in.ensures.letters in (
-      omega arith,
-      (
-        c.copy_in-2.new.self.narrow,
-        (whole_grown d.out.now c.copy_in-2.new.self.out.now d.used _ d.letters c.copy_in-2.new.self.letters (h ++ t) short c.requires.begun letters d.whole c.requires.mark out (omega arith), tt),
-      ),
-    )
+    let letters = c.copy_in-2.ensures.letters ∙ c.copy_in.ensures.letters in
+    record {
+      short = omega arith;
+      narrow = c.copy_in-2.new.self.narrow;
+      whole = whole_grown d.out.now c.copy_in-2.new.self.out.now d.used _ d.letters c.copy_in-2.new.self.letters (h ++ t) short c.requires.begun letters d.whole c.requires.mark out (omega arith);
+    }
 
 pub returns : goal.returns
 returns c =

@@ -1,6 +1,8 @@
 // Lays out one measurement sheet, rules it, and states what it did.
 #![tactic(auto)]
 
+#[cfg(test)]
+mod compare;
 mod layout;
 mod ruling;
 

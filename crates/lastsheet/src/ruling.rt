@@ -34,7 +34,7 @@ impl Ruling {
     }
 
     /// Puts the frame of the plot and a line for each station, and answers how many marks that were.
-    fn put<D: Device>(&self, device: &mut D, plot: &Area) -> Result<u32, Refusal> {
+    pub(crate) fn put<D: Device>(&self, device: &mut D, plot: &Area) -> Result<u32, Refusal> {
         let put = put_frame(device, plot)?;
         let (columns, rows) = plot.get_pixel_range();
         let limits = (columns.start, columns.end.saturating_sub(1));

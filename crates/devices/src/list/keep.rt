@@ -31,10 +31,10 @@ fn judge(free: usize, left: usize, n: usize) -> Result<(), u8>
 }
 
 // Where the next record goes: past those in use.
-fn next(list: &ListDevice) -> usize
-    ensures { result ≡ (held_by list.now).used }
+fn next(d: &ListDevice) -> usize
+    ensures { result ≡ (held_by d.now).used }
 {
-    list.used
+    d.used
 }
 
 impl<'a> ListDevice<'a> {

@@ -1,6 +1,4 @@
 pub mod Cutting
-pub mod Pairs
-pub mod Parts
-pub mod Placing
+pub mod Ordering
 pub mod Tiled
 pub mod Written

@@ -6,7 +6,6 @@ use Rattle.std.proofs.lemmas.List.FromFn.{length-map-range_with_len, get_or-map-
 use Rattle.std.proofs.lemmas.Bool.{cases_order}
 use Rattle.area.specs.Corners.{Corners, width_of, height_of}
 use Rattle.area.specs.Grids.{cell_of, cell_on, grid_of, part, columns, rows, evenly}
-use Rattle.area.proofs.Parts.{part_more}
 use Rattle.area.specs.Tilings.{Inside, nowhere, nth_cell, OnlyIn, Tiles, OneMore, cell_at, Even, EvenTiling}
 
 -- ---- places that ascend cut a line into parts
@@ -112,6 +111,9 @@ module _ (xs ys : ℕ → ℤ) (rs cols : ℕ) where
     }
 
 -- ---- even parts
+
+part_more : (s n i : ℕ) → part s n i ≤ part s n (i + 1)
+part_more s n i = omega (arith, add-mul i 1 (s / n))
 
 part_all : (s n : ℕ) → 0 < n → part s n n ≡ s
 part_all s n h = omega (arith, div-add-mod' s n, mul_comm n (s / n), mod_below s n h)

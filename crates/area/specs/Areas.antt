@@ -2,14 +2,10 @@
 use Rattle.std.specs.Prelude.{Ok, Err, Result}
 use Rattle.size.specs.declared.refusal.Refusal.{Refusal}
 use Rattle.area.specs.declared.Area.{Area}
-use Rattle.area.specs.declared.make.Rect.{Rect}
 use Rattle.area.specs.Corners.{Corners}
 
 abbrev pub corners : Area → Corners
-corners a = record { left = a.x0; top = a.y0; right = a.x1; bottom = a.y1 }
-
-abbrev pub rectangle : Rect → Corners
-rectangle a = record { left = a.x0; top = a.y0; right = a.x1; bottom = a.y1 }
+corners a = record { left = a.across.from; top = a.down.from; right = a.across.to; bottom = a.down.to }
 
 abbrev pub viewed : Result Area Refusal → Result Corners Refusal
 viewed (Ok a) = Ok (corners a)

@@ -1,9 +1,9 @@
 -- An area cut into columns and rows.
-use Rattle.std.specs.Prelude.{◌≡◌, ℕ, ◌+◌, ◌*◌, ◌/◌, ◌%◌, min, cond, ◌&&◌, List, ◌++◌, map, drop, ℤ, pos, ◌+ℤ◌, Ok, Err, Result, nat_le}
+use Rattle.std.specs.Prelude.{ℕ, ◌+◌, ◌*◌, ◌/◌, ◌%◌, min, cond, ◌&&◌, List, ◌++◌, map, drop, ℤ, pos, ◌+ℤ◌, ◌-ℤ◌, Ok, Err, Result, nat_le, unsigned_abs}
 use Rattle.std.specs.List.{range_with_len}
 use Rattle.size.specs.declared.refusal.Refusal.{Refusal}
 use Rattle.size.specs.declared.refusal.Refusal.TheVariants.{Range, Short}
-use Rattle.area.specs.Corners.{Corners, width_of, height_of}
+use Rattle.area.specs.Corners.{Corners}
 
 -- the cell in row r and column k, where column i begins at `xs i` and row i at `ys i`
 abbrev pub cell_of : (ℕ → ℤ) → (ℕ → ℤ) → ℕ → ℕ → Corners
@@ -20,15 +20,6 @@ grid_of xs ys rows cols = map (cell_on xs ys cols) (range_with_len 0 (rows * col
 abbrev pub grid_into : (ℕ → ℤ) → (ℕ → ℤ) → ℕ → ℕ → List Corners → List Corners
 grid_into xs ys rows cols old = grid_of xs ys rows cols ++ drop (rows * cols) old
 
--- so far k of the cells are written, and past them the slice holds what it held
-abbrev pub Written : (ℕ → Corners) → List Corners → List Corners → ℕ → Type 0
-Written f now old k = now ≡ map f (range_with_len 0 k) ++ drop k old
-
--- what a slice holds after an answer
-abbrev pub on_ok : {X E Y : Type 0} → Result X E → Y → Y → Y
-on_ok (Ok x) done old = done
-on_ok (Err e) done old = old
-
 -- neither count is over 1,000
 abbrev pub few_both : {X : Type 0} → ℕ → ℕ → Result X Refusal → Result X Refusal
 few_both n m r = cond (nat_le n 1000 && nat_le m 1000) r (Err Range)
@@ -43,15 +34,15 @@ counted rows cols room = cond (nat_le (rows * cols) room) (Ok (rows * cols)) (Er
 abbrev pub part : ℕ → ℕ → ℕ → ℕ
 part size n i = i * (size / n) + min i (size % n)
 
+-- where part i of n even parts begins, from `from` to `to`
+abbrev pub even_cut : ℤ → ℤ → ℕ → ℕ → ℤ
+even_cut from to n i = from +ℤ pos (part (unsigned_abs (to -ℤ from)) n i)
+
 abbrev pub columns : Corners → ℕ → ℕ → ℤ
-columns c cols i = c.left +ℤ pos (part (width_of c) cols i)
+columns c cols = even_cut c.left c.right cols
 
 abbrev pub rows : Corners → ℕ → ℕ → ℤ
-rows c n i = c.top +ℤ pos (part (height_of c) n i)
-
--- the k-th cell of n rows
-abbrev pub even_cell_of : Corners → ℕ → ℕ → ℕ → Corners
-even_cell_of c n cols k = cell_on (columns c cols) (rows c n) cols k
+rows c n = even_cut c.top c.bottom n
 
 abbrev pub evenly : Corners → ℕ → ℕ → List Corners
 evenly c n cols = grid_of (columns c cols) (rows c n) n cols

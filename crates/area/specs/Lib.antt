@@ -1,4 +1,5 @@
 pub mod Corners
+pub mod Ends
 pub mod Areas
 pub mod Insets
 pub mod Grids

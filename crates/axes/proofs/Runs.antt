@@ -1,5 +1,5 @@
 -- The multiples of a step in a range: how many there are, and which is the k-th.
-use Rattle.std.proofs.Common.{◌≡◌, ℕ, zero, suc, ◌+◌, ◌-◌, ◌*◌, ◌/◌, ◌%◌, ◌<◌, ◌≤◌, eqb, List, [], ◌∷◌, map, length, ℤ, pos, negsuc, ◌+ℤ◌, ◌-ℤ◌, nat_abs, ◌≤ℤ◌, Some, None, filter, sym, refl, ap, ◌∙◌, subst, ⊎_elim, mod-lt, add-mul, div-add-mod', div-mul-le_self, arith}
+use Rattle.std.proofs.Common.{◌≡◌, ℕ, zero, suc, ◌+◌, ◌-◌, ◌*◌, ◌/◌, ◌%◌, ◌<◌, ◌≤◌, min, eqb, List, [], ◌∷◌, map, length, ℤ, pos, negsuc, ◌+ℤ◌, ◌-ℤ◌, nat_abs, ◌≤ℤ◌, Some, None, filter, sym, refl, ap, ◌∙◌, subst, ⊎_elim, mod-lt, add-zero, add-mul, div-add-mod', div-mul-le_self, arith}
 use native.Mathlib.Nat.{add-mul-mod_self_right, mul-mod_left, add-mod, mod-mod, lt-div-mul-add}
 use lib.Arith.{digits_div}
 use Rattle.std.specs.List.{range_with_len, slice_get}
@@ -9,6 +9,7 @@ use Rattle.std.proofs.lemmas.Option.{slice_get-get_or, slice_get_past}
 use Rattle.std.proofs.lemmas.Int.{ints}
 use Rattle.std.proofs.lemmas.Bool.{cases_eq, eq-eqb, ne_eqb, eqb-true, eqb-false, cond_both}
 use Rattle.axes.specs.Shares.{up_of}
+use Rattle.axes.specs.Runs.{nth_of, run, Spans}
 use Rattle.axes.specs.Whole.{divides, multiples}
 
 -- ---- rounding up
@@ -40,6 +41,22 @@ up_other s x p n =
     let here : up_of s x ≡ x / s + 1 = ap (up_of s) e ∙ up_at (x / s) s (x % s) p m (omega arith) in
     next ∙ sym here
 
+-- `div_ceil` rounds up
+pub up_is : (s x : ℕ) → 0 < s → x / s + min 1 (x % s) ≡ up_of s x
+up_is s x p =
+    let e : x ≡ x / s * s + x % s = sym (div-add-mod' x s) in
+    let l : x % s < s = mod-lt x p in
+    ⊎_elim
+    (λ z.
+    let f : x ≡ x / s * s = omega arith in
+    let m : min 1 (x % s) ≡ 0 = omega arith in
+    ap (λ (n : ℕ). x / s + n) m ∙ add-zero (x / s) ∙ sym (ap (up_of s) f ∙ up_even (x / s) s p))
+    (λ n.
+    let o : 0 < x % s = omega arith in
+    let m : min 1 (x % s) ≡ 1 = omega arith in
+    ap (λ (n : ℕ). x / s + n) m ∙ sym (ap (up_of s) e ∙ up_at (x / s) s (x % s) p o (omega arith)))
+    (cases_eq (x % s) 0)
+
 pub up_mono : (s x n : ℕ) → 0 < s → up_of s x ≤ up_of s (x + n)
 up_mono s x n p = le-div (up_of s x) (x + n + (s - 1)) s p (omega (arith, div-mul-le_self (x + (s - 1)) s))
 
@@ -68,14 +85,6 @@ moved s c (negsuc n) y e =
     same_test (suc n % s) (y % s) (other_too y (suc n) s z) (other_too (suc n) y s z')
 
 -- ---- the multiples
-
--- the q-th multiple of s, counted from -c
-abbrev pub nth_of : ℕ → ℕ → ℕ → ℤ
-nth_of s c q = pos (q * s) -ℤ pos (c * s)
-
--- the multiples from the u-th to below the v-th
-abbrev pub run : ℕ → ℕ → ℕ → ℕ → List ℤ
-run s c u v = map (nth_of s c) (range_with_len u (v - u))
 
 module _ (lo : ℤ) (s c w : ℕ) (p : 0 < s) (e : lo +ℤ pos (c * s) ≡ pos w) where
   here : (j : ℕ) → divides s (lo +ℤ pos j) ≡ eqb ((w + j) % s) 0
@@ -122,8 +131,8 @@ multiples_are lo hi s c w v p h d e =
 pub run_length : (s c u v : ℕ) → length (run s c u v) ≡ v - u
 run_length s c u v = length-map-range_with_len (nth_of s c) u (v - u)
 
-pub run-nth : (s c u v k : ℕ) → k < v - u → slice_get (run s c u v) k ≡ Some (nth_of s c (u + k))
-run-nth s c u v k h =
+pub run_nth : (s c u v k : ℕ) → k < v - u → slice_get (run s c u v) k ≡ Some (nth_of s c (u + k))
+run_nth s c u v k h =
     let l : k < length (run s c u v) = omega (arith, run_length s c u v) in
     slice_get-get_or (run s c u v) k (pos 0) l ∙ ap Some (get_or-map-range_with_len (nth_of s c) u (v - u) k (u + k) (pos 0) h refl)
 
@@ -138,12 +147,7 @@ pub below_up : (s v q : ℕ) → 0 < s → q < up_of s (v + 1) → q * s ≤ v
 below_up s v q p h =
     omega (arith, div-mul-le_self (v + 1 + (s - 1)) s, mul-le (q + 1) s (up_of s (v + 1)) s (omega arith) (omega arith), add-mul q 1 s)
 
--- ---- the multiples in a range, by the numbers of steps from 2,000,000 steps below zero to its two ends
-pub record Spans (lo hi : ℤ) (s u v : ℕ) : Type 0 where
-  pub are : multiples s lo hi ≡ run s 2000000 u v
-  pub ordered : u ≤ v
-  pub above : (q : ℕ) → u ≤ q → lo ≤ℤ nth_of s 2000000 q
-  pub below : (q : ℕ) → q < v → nth_of s 2000000 q ≤ℤ hi
+-- ---- the multiples in a range
 
 pub spans : (lo hi lo' end : ℤ) (s u v : ℕ) → 0 < s → negsuc 1999999 ≤ℤ lo → lo ≤ℤ hi → lo' ≡ lo → end ≡ hi +ℤ pos 1 → u ≡ up_of s (nat_abs (lo' +ℤ pos (2000000 * s))) → v ≡ up_of s (nat_abs (end +ℤ pos (2000000 * s))) → Spans lo hi s u v
 spans lo hi lo' end s u v p g h d e i j =

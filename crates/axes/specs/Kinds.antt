@@ -1,5 +1,5 @@
 -- Axes of either kind, under one kind of value.
-use Rattle.std.specs.Prelude.{map, ℤ, negsuc, Some, None, Option}
+use Rattle.std.specs.Prelude.{map, ℤ, negsuc}
 use Rattle.coord.specs.Axis.{Axis}
 use Rattle.axes.specs.Whole.{whole_axis}
 use Rattle.axes.specs.Stations.{station_axis}
@@ -31,7 +31,3 @@ station_in (value.Station s) = s
 abbrev pub any_axis : AnyAxis → Axis AnyValue
 any_axis (axis.Whole x) = viewed_axis number_in value.Whole (whole_axis x.lo x.hi)
 any_axis (axis.Stations x) = viewed_axis station_in value.Station (station_axis x.n)
-
-abbrev pub some_as : {V W : Type 0} → (V → W) → Option V → Option W
-some_as make (Some v) = Some (make v)
-some_as make None = None

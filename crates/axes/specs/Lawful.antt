@@ -9,8 +9,7 @@ use Rattle.axes.specs.Stations.{station_place_of, station_axis}
 use Rattle.axes.specs.Whole.{held_to, whole_place_of, whole_axis}
 use Rattle.axes.specs.declared.station.Station.{Station}
 use Rattle.axes.specs.declared.station.Station.TheVariants.{Edge, Centre}
-use Rattle.axes.specs.Centres.{station_few}
-use Rattle.axes.specs.Keys.{keys_few}
+use Rattle.axes.specs.Keys.{keys_few, station_few}
 use Rattle.axes.specs.Moves.{moved_inside, moved_mirror}
 
 -- ---- an axis that shows all from a to b

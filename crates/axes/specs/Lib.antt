@@ -1,5 +1,7 @@
 pub mod Shares
+pub mod Rows
 pub mod Whole
+pub mod Runs
 pub mod Stations
 pub mod Kinds
 pub mod Samples

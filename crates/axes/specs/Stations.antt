@@ -1,10 +1,11 @@
 -- The axis of n stations.
-use Rattle.std.specs.Prelude.{ℕ, ◌+◌, ◌-◌, ◌*◌, ◌<◌, ◌≤◌, min, cond, ◌&&◌, List, [], ◌∷◌, map, ℤ, pos, Ok, Err, Result, nat_le}
+use Rattle.std.specs.Prelude.{ℕ, ◌+◌, ◌-◌, ◌*◌, ◌<◌, ◌≤◌, min, cond, ◌&&◌, List, map, ℤ, pos, Ok, Err, Result, nat_le}
 use Rattle.std.specs.List.{range_with_len}
 use Rattle.std.specs.Int.{int_min, int_max}
 use Rattle.size.specs.declared.refusal.Refusal.{Refusal}
 use Rattle.size.specs.declared.refusal.Refusal.TheVariants.{Scale}
 use Rattle.coord.specs.Axis.{Axis}
+use Rattle.axes.specs.Rows.{first_row}
 use Rattle.axes.specs.Shares.{moved_by, up_of}
 use Rattle.axes.specs.declared.station.Station.{Station}
 use Rattle.axes.specs.declared.station.Station.TheVariants.{Edge, Centre}
@@ -26,12 +27,8 @@ abbrev pub centres : ℕ → ℕ → List Station
 centres n s = map (λ k. Centre (k * s)) (range_with_len 0 (up_of s n))
 
 -- those of the first step that gives at most m
-abbrev pub centres_by : List ℕ → ℕ → ℕ → List Station
-centres_by [] m n = []
-centres_by (s ∷ ss) m n = cond (nat_le (up_of s n) m) (centres n s) (centres_by ss m n)
-
 unfoldable pub station_keys : ℕ → ℕ → List Station
-station_keys n m = centres_by (range_with_len 1 n) m n
+station_keys n m = first_row (centres n) (range_with_len 1 n) m
 
 -- the axis; it shows all from a to b
 abbrev pub station_axis : ℕ → Axis Station

@@ -1,10 +1,11 @@
 -- The axis of the whole numbers from lo to hi.
-use Rattle.std.specs.Prelude.{ℕ, zero, suc, ◌+◌, ◌*◌, ◌%◌, Bool, cond, ◌&&◌, List, [], ◌∷◌, map, length, ℤ, pos, negsuc, ◌+ℤ◌, ◌-ℤ◌, ◌≤ℤ◌, Ok, Err, filter, Result, ◌==◌, int_le, int_lt, nat_le, unsigned_abs}
+use Rattle.std.specs.Prelude.{ℕ, zero, suc, ◌+◌, ◌*◌, ◌%◌, Bool, cond, ◌&&◌, List, [], ◌∷◌, map, ℤ, pos, negsuc, ◌+ℤ◌, ◌-ℤ◌, ◌≤ℤ◌, Ok, Err, filter, Result, ◌==◌, int_le, int_lt, unsigned_abs}
 use Rattle.std.specs.List.{range_with_len}
 use Rattle.std.specs.Int.{int_min, int_max}
 use Rattle.size.specs.declared.refusal.Refusal.{Refusal}
 use Rattle.size.specs.declared.refusal.Refusal.TheVariants.{Scale}
 use Rattle.coord.specs.Axis.{Axis}
+use Rattle.axes.specs.Rows.{first_row}
 use Rattle.axes.specs.Shares.{moved_by}
 
 -- the ends of an axis: in order, and neither beyond 2,000,000 either way
@@ -45,12 +46,8 @@ abbrev pub steps : List ℕ
 steps = steps_from 1 7
 
 -- the multiples of the first step that gives at most m of them
-abbrev pub keys_by : List ℕ → ℕ → ℤ → ℤ → List ℤ
-keys_by [] m lo hi = []
-keys_by (s ∷ ss) m lo hi = cond (nat_le (length (multiples s lo hi)) m) (multiples s lo hi) (keys_by ss m lo hi)
-
 unfoldable pub whole_keys : ℤ → ℤ → ℕ → List ℤ
-whole_keys lo hi m = keys_by steps m lo hi
+whole_keys lo hi m = first_row (λ s. multiples s lo hi) steps m
 
 -- ---- the axis; it shows all from a to b
 

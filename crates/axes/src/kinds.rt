@@ -1,5 +1,5 @@
-ghost use Rattle.std.specs.Prelude.{◌≡◌, map, length};
-ghost use Rattle.axes.specs.Kinds.{number_in, station_in, some_as, any_axis};
+ghost use Rattle.std.specs.Prelude.{◌≡◌};
+ghost use Rattle.axes.specs.Kinds.{number_in, station_in, any_axis};
 ghost use Rattle.axes.specs.EitherLawful.{any_lawful};
 
 use crate::station::Station;
@@ -24,50 +24,27 @@ pub enum AnyAxis {
     Stations(StationAxis),
 }
 
-// The value as a number.
-fn number(value: AnyValue) -> i32
-    ensures { result ≡ number_in value }
-{
-    match value {
-        AnyValue::Whole(v) => v,
-        AnyValue::Station(_) => i32::MIN,
+impl AnyValue {
+    // The value as a number.
+    // A station counts as the first of the axis: none begins below this.
+    fn number(self) -> i32
+        ensures { result ≡ number_in self }
+    {
+        match self {
+            AnyValue::Whole(v) => v,
+            AnyValue::Station(_) => i32::MIN,
+        }
     }
-}
 
-// The value as a station.
-fn station(value: AnyValue) -> Station
-    ensures { result ≡ station_in value }
-{
-    match value {
-        AnyValue::Whole(_) => Station::Edge(0),
-        AnyValue::Station(s) => s,
-    }
-}
-
-// How many key values an axis has, whatever they are made into.
-fn count<A: Ranged, H: KeyPointHint>(axis: &A, hint: H) -> usize
-    ensures { (make : A.ValueType → AnyValue) → result ≡ length (map make ((A.Ranged.meaning axis.now).keys (H.KeyPointHint.asked hint))) }
-{
-    axis.key_count(hint)
-}
-
-// A number that may be there, as a value of either kind.
-fn as_number(found: Option<i32>) -> Option<AnyValue>
-    ensures { result ≡ some_as AnyValue.Whole found }
-{
-    match found {
-        Some(v) => Some(AnyValue::Whole(v)),
-        None => None,
-    }
-}
-
-// A station that may be there, as a value of either kind.
-fn as_station(found: Option<Station>) -> Option<AnyValue>
-    ensures { result ≡ some_as AnyValue.Station found }
-{
-    match found {
-        Some(s) => Some(AnyValue::Station(s)),
-        None => None,
+    // The value as a station.
+    // A whole number counts as the first of the axis: each begins at this edge.
+    fn station(self) -> Station
+        ensures { result ≡ station_in self }
+    {
+        match self {
+            AnyValue::Whole(_) => Station::Edge(0),
+            AnyValue::Station(s) => s,
+        }
     }
 }
 
@@ -80,22 +57,22 @@ impl Ranged for AnyAxis {
 
     fn map(&self, value: AnyValue, limits: (i32, i32)) -> Result<i32, Refusal> {
         match self {
-            AnyAxis::Whole(x) => x.map(number(value), limits),
-            AnyAxis::Stations(x) => x.map(station(value), limits),
+            AnyAxis::Whole(x) => x.map(value.number(), limits),
+            AnyAxis::Stations(x) => x.map(value.station(), limits),
         }
     }
 
     fn key_count<H: KeyPointHint>(&self, hint: H) -> usize {
         match self {
-            AnyAxis::Whole(x) => count(x, hint),
-            AnyAxis::Stations(x) => count(x, hint),
+            AnyAxis::Whole(x) => x.key_count(hint),
+            AnyAxis::Stations(x) => x.key_count(hint),
         }
     }
 
     fn key_value<H: KeyPointHint>(&self, hint: H, k: usize) -> Option<AnyValue> {
         match self {
-            AnyAxis::Whole(x) => as_number(x.key_value(hint, k)),
-            AnyAxis::Stations(x) => as_station(x.key_value(hint, k)),
+            AnyAxis::Whole(x) => x.key_value(hint, k).map(AnyValue::Whole),
+            AnyAxis::Stations(x) => x.key_value(hint, k).map(AnyValue::Station),
         }
     }
 

@@ -4,6 +4,7 @@
 pub mod kinds;
 mod multiples;
 mod pixels;
+mod rows;
 pub mod samples;
 pub mod station;
 pub mod stations;

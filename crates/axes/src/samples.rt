@@ -1,8 +1,7 @@
 ghost use Rattle.axes.specs.Samples.{TableHolds};
 
 /// Carries the table of worked places and key values.
-pub fn samples_hold() -> u8
+#[tactic(auto, unfolding(crate::specs::Whole::whole_keys))]
+pub fn samples_hold()
     ensures { TableHolds }
-{
-    0
-}
+{}

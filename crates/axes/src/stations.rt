@@ -1,14 +1,11 @@
-ghost use Rattle.std.specs.Prelude.{◌≡◌, ◌*◌, ◌<◌, ◌≤◌, [], length, if◌then◌else◌, Some, None, Ok, Err, MatchOption, nat_le, nat_lt};
-ghost use Rattle.std.specs.List.{slice_get};
-ghost use Rattle.coord.specs.Axis.{Within};
-ghost use Rattle.axes.specs.Shares.{up_of};
+ghost use Rattle.std.specs.Prelude.{◌≡◌, ◌<◌, ◌≤◌, [], Ok, Err, MatchOption};
 ghost use Rattle.axes.specs.Stations.{Few, count_of, station_place_of, station_keys, centres, station_axis};
 ghost use Rattle.axes.specs.Lawful.{station_lawful};
 
-use crate::pixels::{all_between, moved};
+use crate::pixels::Limits;
+use crate::rows::Row;
 use crate::station::Station;
 use coord::hint::KeyPointHint;
-use coord::limits::allowed;
 use coord::ranged::Ranged;
 use size::refusal::Refusal;
 
@@ -24,87 +21,70 @@ impl StationAxis {
     pub fn new(n: u32) -> Result<Self, Refusal>
         ensures { elim result [ Ok x ↦ Ok x.n | Err e ↦ Err e ] ≡ count_of n }
     {
-        if 1 <= n && n <= 200 {
+        if (1..=200).contains(&n) {
             Ok(StationAxis { n })
         } else {
             Err(Refusal::Scale)
         }
     }
-}
 
-// The place of a value on the axis of n stations.
-fn station_place(n: u32, value: Station, a: i32, b: i32) -> i32
-    requires few { Few n }
-    requires limits { Within a × Within b }
-    ensures { result ≡ station_place_of n value a b }
-{
-    match value {
-        Station::Edge(i) => moved(a, b, i.min(n) as i64, n as i64),
-        Station::Centre(i) => moved(a, b, (2 * i.min(n - 1) + 1) as i64, (2 * n) as i64),
-    }
-}
-
-// How many centres there are at every s-th station of n.
-fn every(n: u32, s: u32) -> u32
-    requires { (n ≤ 200) × ((0 < s) × (s ≤ 200)) }
-    ensures { result ≡ up_of s n }
-{
-    (n + (s - 1)) / s
-}
-
-// Whether those are at most `most`.
-fn sparse(n: u32, s: u32, most: usize) -> bool
-    requires { (n ≤ 200) × ((0 < s) × (s ≤ 200)) }
-    ensures { result ≡ nat_le (up_of s n) most }
-{
-    every(n, s) as usize <= most
-}
-
-// The k-th of those.
-fn centre_at(n: u32, s: u32, k: usize) -> Option<Station>
-    requires { (n ≤ 200) × ((0 < s) × (s ≤ 200)) }
-    ensures { result ≡ (if nat_lt k (up_of s n) then Some (Station.Centre (k * s)) else None) }
-{
-    if k < every(n, s) as usize {
-        Some(Station::Centre(k as u32 * s))
-    } else {
-        None
-    }
-}
-
-// The least step that gives at most `most` centres.
-fn station_step(n: u32, most: usize) -> Option<u32>
-    requires { n ≤ 200 }
-    ensures { MatchOption result (station_keys n most ≡ []) (λ s. (0 < s) × (s ≤ 200) × (station_keys n most ≡ centres n s)) }
-{
-    for s in 1..n + 1 {
-        if sparse(n, s, most) {
-            return Some(s);
+    // The place of a value.
+    fn place(self, value: Station, limits: Limits) -> i32
+        ensures { result ≡ station_place_of self.n value limits.a limits.b }
+    {
+        let n = self.n;
+        match value {
+            Station::Edge(i) => limits.moved(i.min(n) as i64, n as i64),
+            Station::Centre(i) => limits.moved((2 * i.min(n - 1) + 1) as i64, (2 * n) as i64),
         }
     }
-    None
-}
 
-// How many key values there are.
-fn station_count(n: u32, most: usize) -> usize
-    requires { n ≤ 200 }
-    ensures { result ≡ length (station_keys n most) }
-{
-    match station_step(n, most) {
-        Some(s) => every(n, s) as usize,
-        None => 0,
+    // The centres at every step-th station.
+    fn centres(self, step: u32) -> Centres
+        requires { (0 < step) × (step ≤ 200) }
+        ensures axis { result.axis ≡ self }
+        ensures step { result.step ≡ step }
+    {
+        Centres { axis: self, step }
+    }
+
+    // The centres at the least step that gives at most `most` of them.
+    // The range is not `1..=n`: there the goals stay open, for std's lemma is on `a..b`.
+    fn keys(self, most: usize) -> Option<Centres>
+        ensures { MatchOption result (station_keys self.n most ≡ []) (λ c. station_keys self.n most ≡ centres c.axis.n c.step) }
+    {
+        (1..self.n + 1)
+            .map(|step| self.centres(step))
+            .find(|row| row.at_most(most))
     }
 }
 
-// The k-th of them.
-fn station_key(n: u32, most: usize, k: usize) -> Option<Station>
-    requires { n ≤ 200 }
-    ensures { result ≡ slice_get (station_keys n most) k }
-{
-    let s = station_step(n, most)?;
-    centre_at(n, s, k)
+// The centres at every step-th station of an axis.
+#[derive(Clone, Copy)]
+struct Centres {
+    axis: StationAxis,
+    step: u32,
+    ghost positive: { 0 < step },
+    ghost near: { step ≤ 200 },
 }
 
+impl Row for Centres {
+    type Value = Station;
+
+    ghost values = { λ c. centres c.axis.n c.step };
+
+    #[tactic(auto, using(crate::proofs::Runs::up_is, crate::specs::Centres::centres_count))]
+    fn count(self) -> usize {
+        self.axis.n.div_ceil(self.step) as usize
+    }
+
+    #[tactic(auto, using(crate::specs::Centres::centres_within, crate::specs::Centres::centres_nth, crate::specs::Centres::centres_past))]
+    fn nth(self, k: usize) -> Option<Station> {
+        (k < self.count()).then(|| Station::Centre(k as u32 * self.step))
+    }
+}
+
+// As `WholeAxis`'s: one impl for both would be a blanket one of another crate's trait.
 impl Ranged for StationAxis {
     type ValueType = Station;
 
@@ -113,22 +93,19 @@ impl Ranged for StationAxis {
     ghost lawful = { λ x. station_lawful x.n x.few.0 };
 
     fn map(&self, value: Station, limits: (i32, i32)) -> Result<i32, Refusal> {
-        if !allowed(limits) {
-            return Err(Refusal::Range);
-        }
-        let (a, b) = limits;
-        Ok(station_place(self.n, value, a, b))
+        Limits::new(limits).map(|limits| self.place(value, limits))
     }
 
     fn key_count<H: KeyPointHint>(&self, hint: H) -> usize {
-        station_count(self.n, hint.max_num_points())
+        let most = hint.max_num_points();
+        self.keys(most).map_or(0, Row::count)
     }
 
     fn key_value<H: KeyPointHint>(&self, hint: H, k: usize) -> Option<Station> {
-        station_key(self.n, hint.max_num_points(), k)
+        self.keys(hint.max_num_points())?.nth(k)
     }
 
     fn axis_pixel_range(&self, limits: (i32, i32)) -> Result<(i32, i32), Refusal> {
-        all_between(limits)
+        Limits::new(limits).map(Limits::all)
     }
 }

@@ -1,20 +1,19 @@
-ghost use Rattle.std.specs.Prelude.{◌≡◌, Ok, Err};
-ghost use Rattle.coord.specs.Axis.{Within};
-ghost use Rattle.axes.specs.Whole.{Ends, ends_of, whole_place_of, whole_axis};
+ghost use Rattle.std.specs.Prelude.{◌≡◌, ◌<◌, ◌≤◌, [], Ok, Err, MatchOption};
+ghost use Rattle.axes.specs.Whole.{Ends, ends_of, whole_place_of, whole_axis, whole_keys, multiples};
 ghost use Rattle.axes.specs.Lawful.{whole_lawful};
 
-use crate::multiples::{whole_count, whole_key};
-use crate::pixels::{all_between, moved};
+use crate::multiples::{Multiples, STEPS};
+use crate::pixels::Limits;
+use crate::rows::Row;
 use coord::hint::KeyPointHint;
-use coord::limits::allowed;
 use coord::ranged::Ranged;
 use size::refusal::Refusal;
 
 /// The whole numbers from lo to hi.
 #[derive(Clone, Copy)]
 pub struct WholeAxis {
-    lo: i32,
-    hi: i32,
+    pub(crate) lo: i32,
+    pub(crate) hi: i32,
     ghost ends: { Ends lo hi },
 }
 
@@ -29,19 +28,41 @@ impl WholeAxis {
             Err(Refusal::Scale)
         }
     }
-}
 
-// The place of `v` on the axis from lo to hi.
-fn whole_place(lo: i32, hi: i32, v: i32, a: i32, b: i32) -> i32
-    requires ends { Ends lo hi }
-    requires limits { Within a × Within b }
-    ensures { result ≡ whole_place_of lo hi v a b }
-{
-    if lo == hi {
-        return a;
+    // The place of a value.
+    fn place(self, value: i32, limits: Limits) -> i32
+        ensures { result ≡ whole_place_of self.lo self.hi value limits.a limits.b }
+    {
+        if self.lo == self.hi {
+            return limits.a;
+        }
+        let held = value.clamp(self.lo, self.hi);
+        limits.moved(
+            held as i64 - self.lo as i64,
+            self.hi as i64 - self.lo as i64,
+        )
     }
-    let held = v.clamp(lo, hi);
-    moved(a, b, held as i64 - lo as i64, hi as i64 - lo as i64)
+
+    // Its multiples of a step.
+    fn multiples(self, step: u32) -> Multiples
+        requires { (0 < step) × (step ≤ 5000000) }
+        ensures axis { result.axis ≡ self }
+        ensures step { result.step ≡ step }
+    {
+        Multiples { axis: self, step }
+    }
+
+    // The multiples of the first step that gives at most `most` of them.
+    // `StationAxis` has a chain of its own: one function for both would take the steps and the maker of rows, with what these owe.
+    fn keys(self, most: usize) -> Option<Multiples>
+        ensures { MatchOption result (whole_keys self.lo self.hi most ≡ []) (λ m. whole_keys self.lo self.hi most ≡ multiples m.step m.axis.lo m.axis.hi) }
+    {
+        STEPS
+            .iter()
+            .copied()
+            .map(|step| self.multiples(step))
+            .find(|row| row.at_most(most))
+    }
 }
 
 impl Ranged for WholeAxis {
@@ -52,22 +73,19 @@ impl Ranged for WholeAxis {
     ghost lawful = { λ x. whole_lawful x.lo x.hi x.ends.0 };
 
     fn map(&self, value: i32, limits: (i32, i32)) -> Result<i32, Refusal> {
-        if !allowed(limits) {
-            return Err(Refusal::Range);
-        }
-        let (a, b) = limits;
-        Ok(whole_place(self.lo, self.hi, value, a, b))
+        Limits::new(limits).map(|limits| self.place(value, limits))
     }
 
     fn key_count<H: KeyPointHint>(&self, hint: H) -> usize {
-        whole_count(self.lo, self.hi, hint.max_num_points())
+        let most = hint.max_num_points();
+        self.keys(most).map_or(0, Row::count)
     }
 
     fn key_value<H: KeyPointHint>(&self, hint: H, k: usize) -> Option<i32> {
-        whole_key(self.lo, self.hi, hint.max_num_points(), k)
+        self.keys(hint.max_num_points())?.nth(k)
     }
 
     fn axis_pixel_range(&self, limits: (i32, i32)) -> Result<(i32, i32), Refusal> {
-        all_between(limits)
+        Limits::new(limits).map(Limits::all)
     }
 }

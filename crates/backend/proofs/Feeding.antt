@@ -1,14 +1,13 @@
 -- Passes, one after another.
-use Rattle.std.proofs.Common.{◌≡◌, ℕ, ◌+◌, ◌<◌, List, [], ◌∷◌, ◌++◌, map, length, take, drop, IsErrAnd, Some, None, Ok, Err, Option, Result, sym, refl, ap, ◌∙◌, subst, zero-add, arith}
+use Rattle.std.specs.Result.{result_err}
+use Rattle.std.proofs.Common.{◌≡◌, ℕ, ◌+◌, List, [], ◌∷◌, ◌++◌, length, IsErrAnd, Some, None, Ok, Err, Option, Result, sym, refl, ap, ◌∙◌, subst, arith}
 use mathlib.Core.Path.{fun_ext}
-use Rattle.std.proofs.lemmas.List.{append-nil, append_assoc, take-append-drop}
-use Rattle.std.proofs.lemmas.List.FromFn.{length-map-range_with_len, take-map-range_with_len, map-range_with_len_more}
+use Rattle.std.proofs.lemmas.List.{append-nil, append_assoc}
 use Rattle.std.proofs.lemmas.Result.{err_from_is_err_and}
-use Rattle.std.specs.List.{range_with_len}
 use Rattle.size.specs.declared.refusal.Refusal.{Refusal}
 use Rattle.size.specs.declared.refusal.Refusal.TheVariants.{Device}
 use Rattle.backend.specs.Marks.{SMark}
-use Rattle.backend.specs.Devices.{Answers, Model, later, advanced}
+use Rattle.backend.specs.Devices.{Answers, Model, Put, later, advanced}
 use Rattle.backend.specs.Passes.{Fed, step, run, taken}
 
 -- What a pass that answers r has put, and would put with more marks after its own.
@@ -75,6 +74,12 @@ pub fed_refused : {a n : ℕ} {m : SMark} {d d' : Model} → (d.answer [] m ≡ 
 unfolding run taken
 fed_refused {a} {n} {m} {d} {d'} p = record { answered = rw p.0; after = rw p.0 (p.1 ∙ sym (advanced_none d)) }
 
+-- one mark put, and what the device answered counted on
+pub fed_put : {U : Type 0} {a : ℕ} {m : SMark} {d d' : Model} (p : Result U ℕ) {r : Result ℕ Refusal} →
+    Put d m p d' → r ≡ step (result_err p) a (Ok (a + 1)) → Fed a (m ∷ []) d r d'
+fed_put (Ok _) t e = rw e (fed_taken t)
+fed_put (Err n) t e = rw e (fed_refused t)
+
 of_fed : {a : ℕ} {ms : List SMark} {d d' : Model} {r : Result ℕ Refusal} → Fed a ms d r d' → Ran d.answer a ms r
 of_fed {a} {ms} {d} f = subst (Ran d.answer a ms) (sym f.answered) (ran d.answer a ms)
 
@@ -107,25 +112,6 @@ fed_then = joined _ _ _ _ _ _ _ _
 pub exits : {a : ℕ} {ms : List SMark} {d d' : Model} {e : Refusal} {r : Result ℕ Refusal} → IsErrAnd r (λ y. y ≡ e) → Fed a ms d (Err e) d' → Fed a ms d r d'
 exits {r = r} by f = let p = err_from_is_err_and r by in rw (p.1, p.2) f
 
--- the count after a pass that went, and the device
+-- the count after a pass that went
 pub fed_length : {a p : ℕ} {ms : List SMark} {d d' : Model} → Fed a ms d (Ok p) d' → p ≡ a + length ms
 fed_length {a} {p} {ms} {d} {d'} f = let c : Ran d.answer a ms (Ok p) = of_fed f in c.0
-
-pub fed_whole : {a p : ℕ} {ms : List SMark} {d d' : Model} → Fed a ms d (Ok p) d' → d' ≡ advanced d ms
-fed_whole {a} {p} {ms} {d} {d'} f = let c : Ran d.answer a ms (Ok p) = of_fed f in f.after ∙ ap (advanced d) c.1.0
-
--- A loop that puts f 0, f 1 and so on, in its k-th turn m: one turn more, a turn that stops, and the count.
-pub fed_more : {a p : ℕ} {m : SMark} {d d' d'' : Model} {r : Result ℕ Refusal} (f : ℕ → SMark) (k : ℕ) → m ≡ f k →
-    Fed a (map f (range_with_len 0 k)) d (Ok p) d' → Fed p (m ∷ []) d' r d'' → Fed a (map f (range_with_len 0 (k + 1))) d r d''
-fed_more f k is h t = rw (map-range_with_len_more f 0 k k (zero-add k), ← is) (fed_then h t)
-
-pub fed_break : {a p : ℕ} {m : SMark} {d d' d'' : Model} {e : Refusal} {r : Result ℕ Refusal} (f : ℕ → SMark) (k n : ℕ) → k < n → m ≡ f k →
-    IsErrAnd r (λ y. y ≡ e) → Fed a (map f (range_with_len 0 k)) d (Ok p) d' → Fed p (m ∷ []) d' (Err e) d'' → Fed a (map f (range_with_len 0 n)) d r d''
-fed_break {a} {p} {m} {d} {d'} {d''} {e} {r} f k n lt is by h t =
-    let ms = map f (range_with_len 0 n) in
-    let front : take (k + 1) ms ≡ map f (range_with_len 0 (k + 1)) = take-map-range_with_len f 0 n (k + 1) (omega arith) in
-    let whole : Fed a (take (k + 1) ms ++ drop (k + 1) ms) d (Err e) d'' = fed_stop (drop (k + 1) ms) (rw front (fed_more f k is h t)) in
-    exits by (rw (take-append-drop (k + 1) ms) at whole)
-
-pub fed_count : {a p : ℕ} {d d' : Model} (f : ℕ → SMark) (k : ℕ) → Fed a (map f (range_with_len 0 k)) d (Ok p) d' → p ≡ a + k
-fed_count {a} f k h = fed_length h ∙ ap (λ n. a + n) (length-map-range_with_len f 0 k)

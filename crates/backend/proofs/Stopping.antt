@@ -1,10 +1,9 @@
 -- A pass stops at the first mark that is refused.
 use Rattle.std.proofs.Common.{◌≡◌, ℕ, zero, suc, ◌+◌, ◌<◌, ◌⊎◌, List, [], ◌∷◌, length, get_or, take, Some, None, Ok, Err, Option, refl, ap, ◌∙◌, inl, inr, arith}
-use Rattle.size.specs.declared.refusal.Refusal.{Refusal}
 use Rattle.size.specs.declared.refusal.Refusal.TheVariants.{Device}
 use Rattle.backend.specs.Marks.{SMark, end}
-use Rattle.backend.specs.Devices.{Answers, Model, advanced, later}
-use Rattle.backend.specs.Passes.{EveryPass, Fed, Goes, Stops, Takes, run, taken}
+use Rattle.backend.specs.Devices.{Answers, later}
+use Rattle.backend.specs.Passes.{EveryPass, Goes, Stops, Takes, run, taken}
 
 -- the first is taken, and of the rest those before k
 takes_more : (f : Answers) (m : SMark) (ms : List SMark) (k : ℕ) → f [] m ≡ None → Takes (later f (m ∷ [])) ms k → (i : ℕ) → i < k + 1 → f (take i (m ∷ ms)) (get_or (m ∷ ms) i end) ≡ None
@@ -41,20 +40,3 @@ pub every_pass : EveryPass
 unfolding run taken
 every_pass f a [] = inl (λ i lt. grind arith, ap Ok (omega arith), refl)
 every_pass f a (m ∷ ms) = ends_step (f [] m) f a m ms refl (every_pass (later f (m ∷ [])) (a + 1) ms)
-
--- where a pass stopped: mark i, refused with n, and the device holding those before it
-abbrev pub StoppedAt : ℕ → List SMark → Model → Refusal → Model → Type 0
-StoppedAt a ms d e d' =
-    (i : ℕ) × ((n : ℕ) × ((i < length ms) × ((e ≡ Device n (a + i)) × (d.answer (take i ms) (get_or ms i end) ≡ Some n) × (d' ≡ advanced d (take i ms)))))
-
-stopped_by : (a : ℕ) (ms : List SMark) (d d' : Model) (e : Refusal) → Fed a ms d (Err e) d' → Ends d.answer a ms → StoppedAt a ms d e d'
-stopped_by a ms d d' e f (inl g) =
-    let never : Err e ≡ Ok (a + length ms) = f.answered ∙ g.1 in
-    let z : ◌≡◌ {A = ℕ} 0 1 = cc in
-    absurd (omega arith)
-stopped_by a ms d d' e f (inr s) =
-    let same : Err e ≡ Err (Device s.1.0 (a + s.0)) = f.answered ∙ s.1.1.1.2 in
-    (s.0, (s.1.0, (s.1.1.0, (cc, s.1.1.1.1, f.after ∙ ap (advanced d) s.1.1.1.3))))
-
-pub fed_stopped : {a : ℕ} {ms : List SMark} {d d' : Model} {e : Refusal} → Fed a ms d (Err e) d' → StoppedAt a ms d e d'
-fed_stopped {a} {ms} {d} {d'} {e} f = stopped_by a ms d d' e f (every_pass d.answer a ms)

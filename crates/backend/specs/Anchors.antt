@@ -1,5 +1,5 @@
 -- Anchors and turns by their numbers.
-use Rattle.std.specs.Prelude.{ℕ, ◌+◌, ◌*◌, ◌/◌, ◌%◌, cond, Ok, Err, Result, ◌==◌, nat_le}
+use Rattle.std.specs.Prelude.{◌≡◌, ℕ, ◌+◌, ◌*◌, ◌/◌, ◌%◌, cond, IfOk, Ok, Err, Result, ◌==◌, nat_le}
 use Rattle.size.specs.declared.refusal.Refusal.{Refusal}
 use Rattle.size.specs.declared.refusal.Refusal.TheVariants.{Range}
 use Rattle.backend.specs.declared.text_anchor.HPos.{HPos}
@@ -35,6 +35,10 @@ down_at n = cond (n == 0) Top (cond (n == 1) Center Bottom)
 abbrev pub pos_at : ℕ → Result Pos Refusal
 pos_at n = cond (nat_le n 8) (Ok (record { h_pos = across_at (n / 3); v_pos = down_at (n % 3) })) (Err Range)
 
+-- the answer to a number is that anchor, which has the number
+abbrev pub GivesPos : ℕ → Result Pos Refusal → Type 0
+GivesPos n r = (r ≡ pos_at n) × IfOk r (λ p. anchor_of p ≡ n)
+
 -- in quarter turns
 abbrev pub turn_of : FontTransform → ℕ
 turn_of None = 0
@@ -45,3 +49,7 @@ turn_of Rotate270 = 3
 -- so many quarter turns, from 0 to 3
 abbrev pub turn_at : ℕ → Result FontTransform Refusal
 turn_at n = cond (n == 0) (Ok None) (cond (n == 1) (Ok Rotate90) (cond (n == 2) (Ok Rotate180) (cond (n == 3) (Ok Rotate270) (Err Range))))
+
+-- the answer to a number is that turn, which has the number
+abbrev pub GivesTurn : ℕ → Result FontTransform Refusal → Type 0
+GivesTurn n r = (r ≡ turn_at n) × IfOk r (λ t. turn_of t ≡ n)

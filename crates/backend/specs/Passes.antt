@@ -1,5 +1,5 @@
 -- Passes: marks put in their order, up to the first that is refused.
-use Rattle.std.specs.Prelude.{◌≡◌, ℕ, ◌+◌, ◌<◌, ◌≤◌, ◌⊎◌, List, [], ◌∷◌, ◌++◌, length, take, Some, None, Ok, Err, Option, Result, slice_index_or}
+use Rattle.std.specs.Prelude.{◌≡◌, ℕ, ◌+◌, ◌<◌, ◌≤◌, ◌⊎◌, List, [], ◌∷◌, length, take, Some, None, Ok, Err, Option, Result, slice_index_or, flat_map}
 use Rattle.size.specs.declared.refusal.Refusal.{Refusal}
 use Rattle.size.specs.declared.refusal.Refusal.TheVariants.{Device}
 use Rattle.backend.specs.Marks.{SMark, end}
@@ -46,8 +46,7 @@ EveryPass = (f : Answers) (a : ℕ) (ms : List SMark) → Goes f a ms ⊎ ((i : 
 
 -- the marks of each value, in their order
 abbrev pub each : {V : Type 0} → (V → List SMark) → List V → List SMark
-each f [] = []
-each f (v ∷ vs) = f v ++ each f vs
+each f vs = flat_map f vs
 
 -- after k turns of a loop over values, each of which puts its marks: the count went from a to p, the device from d to d'
 pub record FedTo {V : Type 0} (f : V → List SMark) (vs : List V) (k a : ℕ) (d : Model) (p : ℕ) (d' : Model) : Type 0 where

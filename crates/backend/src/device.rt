@@ -9,6 +9,7 @@ pub trait Device {
     ghost model: { Self → Model };
 
     /// Puts a mark: it is taken at the end, or refused with the device's number and nothing changes.
+    // The number is the device's own: a device of another crate has refusals that no list here names, and `Refusal::Device` holds any device's.
     fn put(&mut self, m: Mark) -> Result<(), u8>
         ensures { Put (model self.old) (mark_of m.entry) result (model self.new) };
 

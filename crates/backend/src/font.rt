@@ -1,5 +1,5 @@
-ghost use Rattle.std.specs.Prelude.{◌≡◌, IfOk};
-ghost use Rattle.backend.specs.Anchors.{turn_at, turn_of};
+ghost use Rattle.std.specs.Prelude.{◌≡◌};
+ghost use Rattle.backend.specs.Anchors.{GivesTurn, turn_of};
 
 use size::refusal::Refusal;
 
@@ -12,24 +12,27 @@ pub enum FontTransform {
     Rotate270,
 }
 
-impl FontTransform {
-    /// How many quarter turns.
-    pub fn number(self) -> u8
-        ensures { result ≡ turn_of self }
-    {
-        match self {
+/// How many quarter turns.
+impl From<FontTransform> for u8 {
+    ghost from_gives = { λ t n. n ≡ turn_of t };
+
+    fn from(turn: FontTransform) -> u8 {
+        match turn {
             FontTransform::None => 0,
             FontTransform::Rotate90 => 1,
             FontTransform::Rotate180 => 2,
             FontTransform::Rotate270 => 3,
         }
     }
+}
 
-    /// So many quarter turns; refused with 1 beyond 3.
-    pub fn from_number(number: u8) -> Result<FontTransform, Refusal>
-        ensures answer { result ≡ turn_at number }
-        ensures back { IfOk result (λ t. turn_of t ≡ number) }
-    {
+/// So many quarter turns; refused with 1 beyond 3.
+impl TryFrom<u8> for FontTransform {
+    type Error = Refusal;
+
+    ghost try_from_gives = { GivesTurn };
+
+    fn try_from(number: u8) -> Result<FontTransform, Refusal> {
         match number {
             0 => Ok(FontTransform::None),
             1 => Ok(FontTransform::Rotate90),

@@ -1,5 +1,5 @@
-ghost use Rattle.std.specs.Prelude.{◌≡◌, IfOk};
-ghost use Rattle.backend.specs.Anchors.{across_of, anchor_of, down_of, pos_at};
+ghost use Rattle.std.specs.Prelude.{◌≡◌};
+ghost use Rattle.backend.specs.Anchors.{GivesPos, across_of, anchor_of, down_of};
 
 use size::refusal::Refusal;
 
@@ -26,25 +26,29 @@ pub struct Pos {
     pub v_pos: VPos,
 }
 
-// Left 0, centre 1, right 2.
-fn across(h: HPos) -> u8
-    ensures { result ≡ across_of h }
-{
-    match h {
-        HPos::Left => 0,
-        HPos::Center => 1,
-        HPos::Right => 2,
+/// Left 0, centre 1, right 2.
+impl From<HPos> for u8 {
+    ghost from_gives = { λ h n. n ≡ across_of h };
+
+    fn from(h_pos: HPos) -> u8 {
+        match h_pos {
+            HPos::Left => 0,
+            HPos::Center => 1,
+            HPos::Right => 2,
+        }
     }
 }
 
-// Top 0, centre 1, bottom 2.
-fn down(v: VPos) -> u8
-    ensures { result ≡ down_of v }
-{
-    match v {
-        VPos::Top => 0,
-        VPos::Center => 1,
-        VPos::Bottom => 2,
+/// Top 0, centre 1, bottom 2.
+impl From<VPos> for u8 {
+    ghost from_gives = { λ v n. n ≡ down_of v };
+
+    fn from(v_pos: VPos) -> u8 {
+        match v_pos {
+            VPos::Top => 0,
+            VPos::Center => 1,
+            VPos::Bottom => 2,
+        }
     }
 }
 
@@ -55,19 +59,24 @@ impl Pos {
     {
         Pos { h_pos, v_pos }
     }
+}
 
-    /// The number that stands for the anchor in every file: three times the column and the row.
-    pub fn number(self) -> u8
-        ensures { result ≡ anchor_of self }
-    {
-        3 * across(self.h_pos) + down(self.v_pos)
+/// The number that stands for the anchor in every file: three times the column and the row.
+impl From<Pos> for u8 {
+    ghost from_gives = { λ p n. n ≡ anchor_of p };
+
+    fn from(pos: Pos) -> u8 {
+        3 * u8::from(pos.h_pos) + u8::from(pos.v_pos)
     }
+}
 
-    /// The anchor with this number; refused with 1 beyond 8.
-    pub fn from_number(number: u8) -> Result<Pos, Refusal>
-        ensures answer { result ≡ pos_at number }
-        ensures back { IfOk result (λ p. anchor_of p ≡ number) }
-    {
+/// The anchor with this number; refused with 1 beyond 8.
+impl TryFrom<u8> for Pos {
+    type Error = Refusal;
+
+    ghost try_from_gives = { GivesPos };
+
+    fn try_from(number: u8) -> Result<Pos, Refusal> {
         if number > 8 {
             return Err(Refusal::Range);
         }

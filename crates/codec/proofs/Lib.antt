@@ -2,4 +2,3 @@ pub mod Firsts
 pub mod Scans
 pub mod Exactly
 pub mod Parses
-pub mod Ranges

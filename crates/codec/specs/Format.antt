@@ -1,5 +1,5 @@
 -- The bytes of a stream: a header, then marks one after another.
-use Rattle.std.specs.Prelude.{ℕ, ◌/◌, ◌%◌, ◌≤◌, List, [], ◌∷◌, ◌++◌, length, ℤ, FitsSigned}
+use Rattle.std.specs.Prelude.{ℕ, ◌/◌, ◌%◌, ◌≤◌, List, [], ◌∷◌, ◌++◌, length, flat_map, ℤ, FitsSigned}
 use Rattle.std.specs.Int.{w32}
 use Rattle.std.proofs.Common.{of_z}
 use Rattle.backend.specs.Marks.{SMark, line, text, end}
@@ -18,8 +18,7 @@ encode (text x y anchor turn font ink bytes) = 2 ∷ (be32 x ++ (be32 y ++ (anch
 encode end = 3 ∷ []
 
 abbrev pub encodes : List SMark → List ℕ
-encodes [] = []
-encodes (m ∷ ms) = encode m ++ encodes ms
+encodes ms = flat_map encode ms
 
 abbrev pub stream : List SMark → List ℕ
 stream ms = header ++ encodes ms

@@ -1,6 +1,7 @@
 -- What a reader answers of bytes, and that this is right.
 use Rattle.std.specs.Prelude.{ℕ, zero, suc, ◌+◌, ◌-◌, ◌*◌, Bool, cond, ◌&&◌, List, [], ◌∷◌, length, take, drop, ℤ, Some, None, Ok, Err, Option, Result, ◌==◌, nat_le, slice_index}
 use Rattle.std.specs.Int.{w32}
+use Rattle.std.specs.Result.{result_map_both, result_unwrap_or}
 use Rattle.std.proofs.Common.{to_z}
 use Rattle.backend.specs.Marks.{SMark, line, text, end}
 use Rattle.codec.specs.Format.{encode}
@@ -28,8 +29,7 @@ first (kind ∷ bs) = cond (kind == 1) (line_in bs) (cond (kind == 2) (text_in b
 
 -- a mark before the others
 abbrev pub onto : SMark → Result (List SMark) ℕ → Result (List SMark) ℕ
-onto m (Ok ms) = Ok (m ∷ ms)
-onto m (Err p) = Err p
+onto m r = result_map_both (λ ms. m ∷ ms) (λ p. p) r
 
 -- The marks to the end of the bytes, or the place at which none starts. The bytes stand at a place; the first k of them
 -- belong to a mark before.
@@ -47,5 +47,4 @@ read bs = cond (headed bs) (scan 5 0 (drop 5 bs)) (Err 0)
 
 -- the marks, where the bytes are a stream
 abbrev pub marks_or : Result (List SMark) ℕ → List SMark
-marks_or (Ok ms) = ms
-marks_or (Err p) = []
+marks_or r = result_unwrap_or r []

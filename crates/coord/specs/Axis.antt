@@ -1,5 +1,5 @@
 -- What an axis means, and its laws.
-use Rattle.std.specs.Prelude.{◌≡◌, ℕ, ◌≤◌, Bool, cond, ◌&&◌, List, length, ℤ, pos, negsuc, ◌+ℤ◌, ◌-ℤ◌, ◌≤ℤ◌, Some, None, Ok, Err, Option, Result, int_le}
+use Rattle.std.specs.Prelude.{◌≡◌, ℕ, ◌≤◌, Bool, cond, ◌&&◌, List, length, drop, ℤ, pos, negsuc, ◌+ℤ◌, ◌-ℤ◌, ◌≤ℤ◌, Some, None, Ok, Err, Option, Result, int_le}
 use Rattle.std.specs.Int.{int_min, int_max}
 use Rattle.std.specs.List.{slice_get}
 use Rattle.size.specs.declared.refusal.Refusal.{Refusal}
@@ -72,3 +72,7 @@ place_of_some x None a b = None
 -- the place of the k-th key value
 abbrev pub key_place_of : {V : Type 0} → Axis V → Hint → ℕ → ℤ → ℤ → Option ℤ
 key_place_of x h k a b = place_of_some x (slice_get (x.keys h) k) a b
+
+-- the key values from the k-th on
+abbrev pub left_of : {V : Type 0} → Axis V → Hint → ℕ → List V
+left_of x h k = drop k (x.keys h)

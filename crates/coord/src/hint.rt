@@ -15,10 +15,7 @@ impl KeyPointWeight {
     pub fn allow_light_points(&self) -> bool
         ensures { result ≡ allows_light self.now }
     {
-        match self {
-            KeyPointWeight::Bold => false,
-            KeyPointWeight::Any => true,
-        }
+        *self == KeyPointWeight::Any
     }
 }
 

@@ -19,8 +19,7 @@ pub fn key_place<X: Ranged, H: KeyPointHint>(
     if !allowed(limits) {
         return Err(Refusal::Range);
     }
-    match axis.key_value(hint, k) {
-        Some(v) => Ok(Some(axis.map(v, limits)?)),
-        None => Ok(None),
-    }
+    axis.key_value(hint, k)
+        .map(|v| axis.map(v, limits))
+        .transpose()
 }

@@ -1,11 +1,12 @@
-ghost use Rattle.std.specs.Prelude.{◌≡◌, false, not, Some, None};
+ghost use Rattle.std.specs.Prelude.{◌≡◌, false, not, if◌then◌else◌, Some, None};
 ghost use Rattle.coord.specs.Axis.{Same};
 ghost use Rattle.coord.specs.Layers.{turned_axis, part_axis};
 ghost use Rattle.coord.specs.Piles.{turn, shows, LaidOn, layered_axis};
 ghost use Rattle.coord.specs.Reduced.{reduced_lawful};
 
 use crate::hint::KeyPointHint;
-use crate::part::ordered;
+use crate::limits::swapped;
+use crate::part::part_range;
 use crate::ranged::Ranged;
 use size::refusal::Refusal;
 
@@ -37,9 +38,8 @@ impl<V: Copy, A: Ranged<ValueType = V>> Layered<A, V> {
         ensures pile { LaidOn turn (layered_axis A.Ranged.meaning self) (layered_axis A.Ranged.meaning result) }
     {
         Layered {
-            axis: self.axis,
             turned: !self.turned,
-            part: self.part,
+            ..self
         }
     }
 
@@ -50,10 +50,18 @@ impl<V: Copy, A: Ranged<ValueType = V>> Layered<A, V> {
         ensures pile { LaidOn (shows from to) (layered_axis A.Ranged.meaning self) (layered_axis A.Ranged.meaning result) }
     {
         Layered {
-            axis: self.axis,
-            turned: self.turned,
             part: Some((from, to)),
+            ..self
         }
+    }
+}
+
+impl<A, V> Layered<A, V> {
+    // The limits for the axis under the layers.
+    fn below(&self, limits: (i32, i32)) -> (i32, i32)
+        ensures { result ≡ (if self.now.turned then (limits.1, limits.0) else limits) }
+    {
+        if self.turned { swapped(limits) } else { limits }
     }
 }
 
@@ -64,12 +72,9 @@ impl<V: Copy, A: Ranged<ValueType = V>> Ranged for Layered<A, V> {
 
     ghost lawful = { λ x. reduced_lawful x.turned x.part (A.Ranged.meaning x.axis) (A.Ranged.lawful x.axis) };
 
+    #[tactic(auto, using(crate::proofs::Below::below_place))]
     fn map(&self, value: V, limits: (i32, i32)) -> Result<i32, Refusal> {
-        if self.turned {
-            self.axis.map(value, (limits.1, limits.0))
-        } else {
-            self.axis.map(value, limits)
-        }
+        self.axis.map(value, self.below(limits))
     }
 
     fn key_count<H: KeyPointHint>(&self, hint: H) -> usize {
@@ -80,16 +85,12 @@ impl<V: Copy, A: Ranged<ValueType = V>> Ranged for Layered<A, V> {
         self.axis.key_value(hint, k)
     }
 
+    #[tactic(auto, using(crate::proofs::Below::below_shown))]
     fn axis_pixel_range(&self, limits: (i32, i32)) -> Result<(i32, i32), Refusal> {
-        if let Some((from, to)) = self.part {
-            let p = self.map(from, limits)?;
-            let q = self.map(to, limits)?;
-            return Ok(ordered(p, q));
-        }
-        if self.turned {
-            self.axis.axis_pixel_range((limits.1, limits.0))
-        } else {
-            self.axis.axis_pixel_range(limits)
+        let limits = self.below(limits);
+        match self.part {
+            Some((from, to)) => part_range(&self.axis, from, to, limits),
+            None => self.axis.axis_pixel_range(limits),
         }
     }
 }

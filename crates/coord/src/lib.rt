@@ -2,6 +2,7 @@
 #![tactic(auto)]
 
 pub mod hint;
+pub mod key_points;
 pub mod keys;
 pub mod layered;
 pub mod limits;

@@ -1,5 +1,6 @@
 ghost use Rattle.std.specs.Prelude.{◌≡◌};
 ghost use Rattle.std.specs.Int.{int_min, int_max};
+ghost use Rattle.coord.specs.Axis.{bounded, shown};
 ghost use Rattle.coord.specs.Layers.{part_axis};
 ghost use Rattle.coord.specs.Lawful.{part_lawful};
 
@@ -8,10 +9,24 @@ use crate::ranged::Ranged;
 use size::refusal::Refusal;
 
 // Two places, the lower first.
-pub(crate) fn ordered(p: i32, q: i32) -> (i32, i32)
+fn ordered(p: i32, q: i32) -> (i32, i32)
     ensures { result ≡ (int_min p q, int_max p q) }
 {
     (p.min(q), p.max(q))
+}
+
+// What is shown of an axis between two of its values.
+pub(crate) fn part_range<A: Ranged>(
+    axis: &A,
+    from: A::ValueType,
+    to: A::ValueType,
+    limits: (i32, i32),
+) -> Result<(i32, i32), Refusal>
+    ensures { result ≡ bounded limits (shown (part_axis from to (A.Ranged.meaning axis.now))) }
+{
+    let p = axis.map(from, limits)?;
+    let q = axis.map(to, limits)?;
+    Ok(ordered(p, q))
 }
 
 /// A part of an axis, between two of its values.
@@ -42,8 +57,6 @@ impl<V: Copy, A: Ranged<ValueType = V>> Ranged for ShownPart<A, V> {
     }
 
     fn axis_pixel_range(&self, limits: (i32, i32)) -> Result<(i32, i32), Refusal> {
-        let p = self.axis.map(self.from, limits)?;
-        let q = self.axis.map(self.to, limits)?;
-        Ok(ordered(p, q))
+        part_range(&self.axis, self.from, self.to, limits)
     }
 }

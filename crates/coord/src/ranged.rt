@@ -13,6 +13,7 @@ pub trait Ranged: Copy {
     ghost meaning: { Self → Axis Self.ValueType };
 
     /// The place of a value between two limits; a limit beyond 30,000 either way is refused with 1.
+    // Limits are a pair, as in plotters: any two numbers may be given, and a call refuses them.
     fn map(&self, value: Self::ValueType, limits: (i32, i32)) -> Result<i32, Refusal>
         ensures { result ≡ bounded limits ((meaning self.now).place value) };
 

@@ -3,6 +3,7 @@ ghost use Rattle.coord.specs.Layers.{turned_axis};
 ghost use Rattle.coord.specs.Lawful.{turned_lawful};
 
 use crate::hint::KeyPointHint;
+use crate::limits::swapped;
 use crate::ranged::Ranged;
 use size::refusal::Refusal;
 
@@ -20,9 +21,10 @@ impl<A: Ranged> Ranged for Turned<A> {
     ghost lawful = { λ x. turned_lawful (A.Ranged.meaning x.axis) (A.Ranged.lawful x.axis) };
 
     fn map(&self, value: A::ValueType, limits: (i32, i32)) -> Result<i32, Refusal> {
-        self.axis.map(value, (limits.1, limits.0))
+        self.axis.map(value, swapped(limits))
     }
 
+    // Each layer hands its key values on itself: one impl for all layers would take a trait with their places, ranges and laws anew.
     fn key_count<H: KeyPointHint>(&self, hint: H) -> usize {
         self.axis.key_count(hint)
     }
@@ -32,13 +34,11 @@ impl<A: Ranged> Ranged for Turned<A> {
     }
 
     fn axis_pixel_range(&self, limits: (i32, i32)) -> Result<(i32, i32), Refusal> {
-        self.axis.axis_pixel_range((limits.1, limits.0))
+        self.axis.axis_pixel_range(swapped(limits))
     }
 }
 
 /// Carries the law of two turns: they give the axis's places, key values and shown range back.
-pub fn turns_cancel<A: Ranged>(axis: &A) -> u8
+pub fn turns_cancel<A: Ranged>(axis: &A)
     ensures { Same (turned_axis (turned_axis (A.Ranged.meaning axis.now))) (A.Ranged.meaning axis.now) }
-{
-    0
-}
+{}

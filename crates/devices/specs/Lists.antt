@@ -1,12 +1,17 @@
 -- A list of marks in two slices, and the device that it is.
-use Rattle.std.specs.Prelude.{◌≡◌, ℕ, ◌+◌, ◌-◌, ◌*◌, ◌/◌, ◌<◌, ◌≤◌, Bool, true, false, cond, ◌&&◌, List, [], ◌∷◌, map, length, take, Some, None, Ok, Err, Option, Result, ◌==◌, nat_le, nat_lt, slice_set, refl}
-use Rattle.std.proofs.Common.{mul-le-mul, div-le_self, arith, leb-true}
+use Rattle.std.specs.Prelude.{ℕ, ◌+◌, ◌-◌, ◌*◌, ◌/◌, Bool, cond, ◌&&◌, List, map, length, take, Some, None, Option, ◌==◌, nat_le, nat_lt, slice_set, sum_by}
+use Rattle.std.proofs.Common.{mul-le-mul, div-le_self, arith}
+use Rattle.std.proofs.lemmas.Bool.Decides.{nat_tests}
 use Rattle.std.specs.Borrow.{GName}
-use Rattle.std.specs.Option as options
+use Rattle.std.specs.List.{list_all}
+use Rattle.std.specs.Option.{option_map}
 use Rattle.backend.specs.declared.shape.Shape.{Shape}
 use Rattle.backend.specs.Marks.{SMark, line, text, end}
 use Rattle.backend.specs.Devices.{Answers, Bounded, Extents, Model}
 use Rattle.devices.specs.declared.record.Record.{Record}
+use Rattle.devices.specs.declared.refusal.PutRefusal.{PutRefusal}
+use Rattle.devices.specs.declared.refusal.PutRefusal.TheVariants.{NoRoom, NoTextRoom, LongText}
+use Rattle.devices.specs.Refusals.{put_number}
 use Rattle.devices.specs.Placed.{placed}
 use Rattle.devices.specs.Records.{mark_in, record_from, text_in}
 
@@ -42,8 +47,8 @@ abbrev pub room_of : Held → ℕ × ℕ
 room_of h = (length h.records - h.used, length h.text - h.filled)
 
 -- whether a mark whose text has n bytes is taken, where so many records and bytes are left
-abbrev pub verdict : ℕ → ℕ → ℕ → Option ℕ
-verdict free left n = cond (nat_lt 64 n) (Some 3) (cond (free == 0) (Some 1) (cond (nat_lt left n) (Some 2) None))
+abbrev pub verdict : ℕ × ℕ → ℕ → Option PutRefusal
+verdict room n = cond (nat_lt 64 n) (Some LongText) (cond (room.0 == 0) (Some NoRoom) (cond (nat_lt room.1 n) (Some NoTextRoom) None))
 
 abbrev pub bytes_in : SMark → ℕ
 bytes_in (line x0 y0 x1 y1 ink) = 0
@@ -51,43 +56,21 @@ bytes_in (text x y anchor turn font ink bytes) = length bytes
 bytes_in end = 0
 
 abbrev pub text_bytes : List SMark → ℕ
-text_bytes [] = 0
-text_bytes (m ∷ ms) = bytes_in m + text_bytes ms
+text_bytes ms = sum_by bytes_in ms
 
 -- what it would answer with these marks more: they use up records and bytes
 abbrev pub answers_of : Held → Answers
-answers_of h ms m = verdict (length h.records - (h.used + length ms)) (length h.text - (h.filled + text_bytes ms)) (bytes_in m)
+answers_of h ms m = option_map put_number (verdict (length h.records - (h.used + length ms), length h.text - (h.filled + text_bytes ms)) (bytes_in m))
 
 abbrev pub is_all_printable : List ℕ → Bool
-is_all_printable [] = true
-is_all_printable (b ∷ bs) = (nat_le 32 b && nat_le b 126) && is_all_printable bs
+is_all_printable bs = list_all (λ b. nat_le 32 b && nat_le b 126) bs
 
 -- bytes × font ÷ 2 wide and font high
 abbrev pub sized : Extents
 sized bs f = cond (nat_le (length bs) 64 && is_all_printable bs) (Some (length bs * f / 2, f)) None
 
-small : (n f : ℕ) (a b : Bool) → nat_le n 64 ≡ a → f < 256 →
-    options.MatchOption {T = ℕ × ℕ} (cond (a && b) (Some (n * f / 2, f)) None) (Unit {0}) (λ p. (p.0 ≤ 30000) × (p.1 ≤ 30000))
-small n f true true e lt =
-    let n-small : n ≤ 64 = leb-true n 64 e in
-    let f-small : f ≤ 255 = omega arith in
-    let product : n * f ≤ 64 * 255 = mul-le-mul n-small f-small in
-    (omega (arith, div-le_self (n * f) 2), omega arith)
-small n f true false e lt = tt
-small n f false b e lt = tt
-
 pub sized_bounded : Bounded sized
-sized_bounded t f lt = small (length t) f (nat_le (length t) 64) (is_all_printable t) refl lt
+sized_bounded t f lt = grind (arith, nat_tests, mul-le-mul, div-le_self)
 
 abbrev pub list_model : Held → List GName → Model
 list_model h place = record { marks = marks_of h; answer = answers_of h; extent = sized; bounded = sized_bounded; place = place }
-
--- an answer as the device's number, or none
-abbrev pub told : {U : Type 0} → Result U ℕ → Option ℕ
-told (Ok _) = None
-told (Err n) = Some n
-
--- one of two, by whether the answer is a refusal
-abbrev pub on_ok : {U X : Type 0} → Result U ℕ → X → X → X
-on_ok (Ok _) x y = x
-on_ok (Err n) x y = y

@@ -1,5 +1,6 @@
 -- The records of a list, and what each stands for.
-use Rattle.std.specs.Prelude.{ℕ, ◌+◌, Bool, true, ◌&&◌, List, [], ◌∷◌, take, drop, nat_le}
+use Rattle.std.specs.Prelude.{ℕ, ◌+◌, Bool, true, List, [], take, drop, nat_le}
+use Rattle.std.specs.List.{list_all}
 use Rattle.backend.specs.declared.shape.Shape.{Shape}
 use Rattle.backend.specs.declared.shape.Shape.TheVariants as shape
 use Rattle.backend.specs.Marks.{SMark, end, line_of, text_of}
@@ -31,5 +32,4 @@ inside n (Text l at len) = nat_le (at + len) n
 inside n End = true
 
 abbrev pub kept : ℕ → List Record → Bool
-kept n [] = true
-kept n (r ∷ rs) = inside n r && kept n rs
+kept n rs = list_all (inside n) rs

@@ -3,5 +3,6 @@
 
 pub mod list;
 pub mod record;
+pub mod refusal;
 #[cfg(test)]
 mod tests;

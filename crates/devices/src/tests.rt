@@ -73,18 +73,14 @@ fn keeps_and_reads(rt: HostRuntime) -> Result<(), Fail> {
     assert_eq!(rt; d.room(), (0, 1));
     assert_eq!(rt; d.measure(b"abc", 11), Some((16, 11)));
     assert_eq!(rt; d.measure(b"a\nc", 11), None);
-    match d.get(0) {
-        Some(Shape::Text(l, text)) => {
-            assert_eq!(rt; l.x, -5);
-            assert!(rt; text.len() == 2);
-            assert_eq!(rt; text[1], b'b');
-        }
-        _ => return Err(Fail::new("no text")),
-    }
-    match d.get(2) {
-        None => Ok(()),
-        _ => Err(Fail::new("past the last")),
-    }
+    let Some(Shape::Text(l, text)) = d.get(0) else {
+        return Err(Fail::new("no text"));
+    };
+    assert_eq!(rt; l.x, -5);
+    assert_eq!(rt; text.len(), 2);
+    assert_eq!(rt; text.get(1), Some(&b'b'));
+    assert_eq!(rt; d.get(2), None);
+    Ok(())
 }
 
 #[test]
@@ -111,11 +107,8 @@ fn refuses_by_a_rule_of_its_own(rt: HostRuntime) -> Result<(), Fail> {
 
 #[test]
 fn makes_no_mark_out_of_range(rt: HostRuntime) -> Result<(), Fail> {
-    match stroke(101) {
-        Ok(_) => return Err(Fail::new("ink")),
-        Err(e) => assert_eq!(rt; e.number(), 1),
-    }
-    assert_eq!(rt; Pos::from_number(5)?.number(), 5);
-    assert_eq!(rt; Pos::from_number(9), Err(Refusal::Range));
+    assert_eq!(rt; stroke(101).map_err(u8::from), Err(1));
+    assert_eq!(rt; u8::from(Pos::try_from(5)?), 5);
+    assert_eq!(rt; Pos::try_from(9), Err(Refusal::Range));
     Ok(())
 }

@@ -9,6 +9,7 @@ pub trait ValueFormatter<V> {
 
     /// Writes the text of `value` at the front of `out` and answers its length; refused with 9 where `out` has under 32 bytes.
     /// What stands past the text is left open.
+    // A lent slice and a length, since the library has no heap to answer a text on.
     fn format(&self, value: V, out: &mut [u8]) -> Result<usize, Refusal>
         ensures { Formatted (text self.now value) out.old result out.new };
 }

@@ -22,9 +22,7 @@ mod tests {
     // four stations, turned, then the part from the first edge of station 1 to the centre of station 3
     #[test]
     fn layers_of_an_order(rt: HostRuntime) -> Result<(), Fail> {
-        let Ok(axis) = StationAxis::new(4) else {
-            return Err(Fail::new("no axis"));
-        };
+        let axis = StationAxis::new(4)?;
         let from = AnyValue::Station(Station::Edge(1));
         let to = AnyValue::Station(Station::Centre(3));
         let axis = Layered::new(AnyAxis::Stations(axis))

@@ -1,8 +1,7 @@
-ghost use Rattle.std.specs.Prelude.{◌≡◌};
-ghost use Rattle.format.specs.Texts.{number_of, station_text};
+ghost use Rattle.format.specs.Texts.{station_text};
 
 use crate::formatter::ValueFormatter;
-use crate::scratch::write_after;
+use crate::scratch::write_marked;
 use axes::station::Station;
 use size::refusal::Refusal;
 
@@ -10,23 +9,11 @@ use size::refusal::Refusal;
 #[derive(Clone, Copy)]
 pub struct StationLabel;
 
-// The number of the station, at its edge as at its centre.
-fn number(value: Station) -> u32
-    ensures { result ≡ number_of value }
-{
-    match value {
-        Station::Edge(i) => i,
-        Station::Centre(i) => i,
-    }
-}
-
 impl ValueFormatter<Station> for StationLabel {
     ghost text = { λ _ v. station_text v };
 
     fn format(&self, value: Station, out: &mut [u8]) -> Result<usize, Refusal> {
-        if out.len() < 32 {
-            return Err(Refusal::Short);
-        }
-        Ok(write_after(b'S', number(value), out))
+        let (Station::Edge(number) | Station::Centre(number)) = value;
+        write_marked(b"S", number, out)
     }
 }

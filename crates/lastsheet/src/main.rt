@@ -7,8 +7,9 @@ mod layout;
 mod ruling;
 
 use crate::layout::Layout;
-use crate::ruling::{Ruling, key};
+use crate::ruling::{LABELS, Ruling, ends, label};
 use area::Area;
+use coord::key_points::key_points;
 use coord::ranged::Ranged;
 use format::decimal::Decimal;
 use format::formatter::ValueFormatter;
@@ -21,14 +22,12 @@ fn main(rt: HostRuntime) -> anyhow::Result<()> {
 
 fn run(rt: &HostRuntime) -> anyhow::Result<()> {
     match sample() {
-        Ok(sheet) => {
-            let (layout, ruling) = sheet;
+        Ok((layout, ruling)) => {
             state_layout(rt, &layout)?;
             state_ruling(rt, &ruling, &layout.cells[4])
         }
         Err(refusal) => {
-            let number = refusal.number();
-            println!(rt; "refused {number}")?;
+            println!(rt; "{refusal}")?;
             Ok(())
         }
     }
@@ -44,8 +43,7 @@ fn state_layout(rt: &HostRuntime, layout: &Layout) -> anyhow::Result<()> {
     let tick = layout.tick;
     println!(rt; "sheet {root}")?;
     println!(rt; "plot {plot}")?;
-    for k in 0..9 {
-        let cell = layout.cells[k];
+    for (k, cell) in layout.cells.iter().enumerate() {
         println!(rt; "cell {k} {cell}")?;
     }
     println!(rt; "tick {tick}")?;
@@ -54,10 +52,15 @@ fn state_layout(rt: &HostRuntime, layout: &Layout) -> anyhow::Result<()> {
 
 fn state_ruling(rt: &HostRuntime, ruling: &Ruling, plot: &Area) -> anyhow::Result<()> {
     let (columns, rows) = plot.get_pixel_range();
-    let across = (columns.start, columns.end.saturating_sub(1));
-    let up = (rows.end.saturating_sub(1), rows.start);
-    state_keys(rt, "column", &ruling.stations, &StationLabel, across)?;
-    state_keys(rt, "row", &ruling.girths, &Decimal, up)?;
+    let (top, bottom) = ends(&rows);
+    state_keys(
+        rt,
+        "column",
+        &ruling.stations,
+        &StationLabel,
+        ends(&columns),
+    )?;
+    state_keys(rt, "row", &ruling.girths, &Decimal, (bottom, top))?;
     state_list(rt, ruling, plot, 40)?;
     state_list(rt, ruling, plot, 6)
 }
@@ -70,10 +73,10 @@ fn state_keys<V: Copy, A: Ranged<ValueType = V>, F: ValueFormatter<V>>(
     formatter: &F,
     limits: (i32, i32),
 ) -> anyhow::Result<()> {
-    for k in 0..11 {
-        if let Some((label, place)) = key(rt.alloc(), axis, formatter, k, limits)? {
-            println!(rt; "{name} {place} for {label}")?;
-        }
+    for value in key_points(*axis, LABELS) {
+        let label = label(rt.alloc(), formatter, value)?;
+        let place = axis.map(value, limits)?;
+        println!(rt; "{name} {place} for {label}")?;
     }
     Ok(())
 }
@@ -88,10 +91,7 @@ fn state_list(rt: &HostRuntime, ruling: &Ruling, plot: &Area, room: usize) -> an
                 "list with room for {room} holds {held}, refused with {number} after {count}"
             )?
         }
-        Err(refusal) => {
-            let number = refusal.number();
-            println!(rt; "refused {number}")?
-        }
+        Err(refusal) => println!(rt; "{refusal}")?,
     }
     Ok(())
 }

@@ -13,9 +13,10 @@ use devices::record::Record;
 use format::formatter::ValueFormatter;
 use size::refusal::Refusal;
 use std::alloc::{AllocError, Global};
+use std::ops::Range;
 
 /// The most labels that an axis gets.
-const LABELS: BoldPoints = BoldPoints(11);
+pub(crate) const LABELS: BoldPoints = BoldPoints(11);
 
 /// The axes of a sheet: stations from left to right, girths in millimetres from bottom to top.
 #[derive(Clone, Copy)]
@@ -35,24 +36,16 @@ impl Ruling {
 
     /// Puts the frame of the plot and a line for each station, and answers how many marks that were.
     pub(crate) fn put<D: Device>(&self, device: &mut D, plot: &Area) -> Result<u32, Refusal> {
-        let put = put_frame(device, plot)?;
         let (columns, rows) = plot.get_pixel_range();
-        let limits = (columns.start, columns.end.saturating_sub(1));
-        let mut count = put;
+        let (top, bottom) = ends(&rows);
+        let mut put = put_frame(device, plot)?;
+        // By number, as `key_place` is asked, which promises a place in the plot.
         for k in 0..self.stations.key_count(LABELS) {
-            if let Some(x) = key_place(&self.stations, LABELS, k, limits)? {
-                let stroke = Stroke {
-                    x0: x,
-                    y0: rows.end.saturating_sub(1),
-                    x1: x,
-                    y1: rows.start,
-                    ink: 20,
-                };
-                feed(device, count, Mark::line(Line::new(stroke)?))?;
-                count = count.saturating_add(1);
+            if let Some(x) = key_place(&self.stations, LABELS, k, ends(&columns))? {
+                put = put_line(device, put, (x, bottom), (x, top), 20)?;
             }
         }
-        Ok(count)
+        Ok(put)
     }
 
     /// The same on a list device with room for so many marks: how many it holds then, and the answer.
@@ -69,80 +62,53 @@ impl Ruling {
     }
 }
 
-// Puts the four lines around the plot.
-fn put_frame<D: Device>(device: &mut D, plot: &Area) -> Result<u32, Refusal> {
-    let (columns, rows) = plot.get_pixel_range();
-    let (x0, y0) = (columns.start, rows.start);
-    let (x1, y1) = (columns.end.saturating_sub(1), rows.end.saturating_sub(1));
-    let ink = 100;
-    feed(
-        device,
-        0,
-        Mark::line(Line::new(Stroke {
-            x0,
-            y0,
-            x1,
-            y1: y0,
-            ink,
-        })?),
-    )?;
-    feed(
-        device,
-        1,
-        Mark::line(Line::new(Stroke {
-            x0: x1,
-            y0,
-            x1,
-            y1,
-            ink,
-        })?),
-    )?;
-    feed(
-        device,
-        2,
-        Mark::line(Line::new(Stroke {
-            x0: x1,
-            y0: y1,
-            x1: x0,
-            y1,
-            ink,
-        })?),
-    )?;
-    feed(
-        device,
-        3,
-        Mark::line(Line::new(Stroke {
-            x0,
-            y0: y1,
-            x1: x0,
-            y1: y0,
-            ink,
-        })?),
-    )?;
-    Ok(4)
+/// The first and the last of some pixels.
+pub(crate) fn ends(pixels: &Range<i32>) -> (i32, i32) {
+    (pixels.start, pixels.end.saturating_sub(1))
 }
 
-/// The k-th key value of an axis: its label and its place between the limits.
-pub(crate) fn key<V: Copy, A: Ranged<ValueType = V>, F: ValueFormatter<V>>(
-    heap: Global,
-    axis: &A,
-    formatter: &F,
-    k: usize,
-    limits: (i32, i32),
-) -> Result<Option<(String, i32)>, AllocError> {
-    let Some(value) = axis.key_value(LABELS, k) else {
-        return Ok(None);
-    };
-    let Ok(place) = axis.map(value, limits) else {
-        return Ok(None);
-    };
-    let mut scratch = [0; 32];
-    let Ok(length) = formatter.format(value, &mut scratch) else {
-        return Ok(None);
-    };
-    let mut label = String::new(heap);
-    for byte in scratch.iter().take(length) {
-        label.push(char::from(*byte))?;
+// Puts the four lines around the plot, clockwise from its upper left corner.
+fn put_frame<D: Device>(device: &mut D, plot: &Area) -> Result<u32, Refusal> {
+    let (columns, rows) = plot.get_pixel_range();
+    let ((x0, x1), (y0, y1)) = (ends(&columns), ends(&rows));
+    let mut put = 0;
+    let mut from = (x0, y0);
+    for to in [(x1, y0), (x1, y1), (x0, y1), (x0, y0)] {
+        put = put_line(device, put, from, to, 100)?;
+        from = to;
     }
-    Ok(Some((label, place)))
+    Ok(put)
+}
+
+// Puts one line more after the first `put` marks, and answers how many there are then.
+fn put_line<D: Device>(
+    device: &mut D,
+    put: u32,
+    from: (i32, i32),
+    to: (i32, i32),
+    ink: u8,
+) -> Result<u32, Refusal> {
+    let line = Line::new(Stroke {
+        x0: from.0,
+        y0: from.1,
+        x1: to.0,
+        y1: to.1,
+        ink,
+    })?;
+    // `feed` answers a usize and takes a u32, so that counting on needs no test.
+    feed(device, put, Mark::line(line))?;
+    Ok(put.saturating_add(1))
+}
+
+/// The label of a value.
+pub(crate) fn label<V: Copy, F: ValueFormatter<V>>(
+    heap: Global,
+    formatter: &F,
+    value: V,
+) -> anyhow::Result<String> {
+    let mut scratch = [0; 32];
+    let length = formatter.format(value, &mut scratch)?;
+    // each byte as a character: to read them as UTF-8 would add a failure that cannot be
+    let text = scratch.iter().take(length).map(|byte| char::from(*byte));
+    Ok(text.collect(heap)?)
 }

@@ -3,7 +3,6 @@ ghost use Rattle.replay.specs.declared.fault.Fault.TheVariants.{Unread as NotRea
 
 use size::refusal::Refusal;
 use std::alloc::{AllocError, AllocFailed};
-use std::fmt;
 
 /// A line that asks nothing: an unknown or a missing word, no number where one is due, or words left over.
 #[derive(Clone, Copy, Debug)]
@@ -45,15 +44,6 @@ impl<T: Drop> From<AllocFailed<T>> for Fault {
     ghost from_gives = { λ _ r. r ≡ Memory };
 
     fn from(_e: AllocFailed<T>) -> Fault {
-        Fault::Memory
-    }
-}
-
-// A `String` refuses text only for want of memory.
-impl From<fmt::Error> for Fault {
-    ghost from_gives = { λ _ r. r ≡ Memory };
-
-    fn from(_e: fmt::Error) -> Fault {
         Fault::Memory
     }
 }

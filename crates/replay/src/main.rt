@@ -33,10 +33,7 @@ fn reply(rt: &HostRuntime, line: &str) -> io::Result<()> {
     match answer(rt.alloc(), line) {
         Ok(text) => println!(rt; "{text}"),
         Err(Fault::Unread) => println!(rt; "unread"),
-        Err(Fault::Refused(refusal)) => {
-            let number = refusal.number();
-            println!(rt; "refused {number}")
-        }
+        Err(Fault::Refused(refusal)) => println!(rt; "{refusal}"),
         Err(Fault::Memory) => Err(AllocError.into()),
     }
 }

@@ -7,6 +7,7 @@ use axes::kinds::{AnyAxis, AnyValue};
 use axes::station::Station;
 use axes::stations::StationAxis;
 use axes::whole::WholeAxis;
+use coord::key_points::key_points;
 use coord::layered::Layered;
 use coord::points::BoldPoints;
 use coord::ranged::Ranged;
@@ -37,7 +38,7 @@ pub(crate) fn answer(heap: Global, words: &mut Words<'_>) -> Result<String, Faul
 }
 
 fn place(heap: Global, words: &mut Words<'_>) -> Result<String, Fault> {
-    let limits = limits(words)?;
+    let limits = words.pair()?;
     let kind = match words.peek() {
         Some("e") | Some("c") => Kind::Station,
         _ => Kind::Whole,
@@ -53,7 +54,7 @@ fn place(heap: Global, words: &mut Words<'_>) -> Result<String, Fault> {
 }
 
 fn shown(heap: Global, words: &mut Words<'_>) -> Result<String, Fault> {
-    let limits = limits(words)?;
+    let limits = words.pair()?;
     let (_, axis) = axis(words)?;
     words.done()?;
     let (low, high) = axis?.axis_pixel_range(limits)?;
@@ -68,10 +69,8 @@ fn keys(heap: Global, words: &mut Words<'_>) -> Result<String, Fault> {
     let axis = axis?;
     let count = axis.key_count(hint);
     let mut text = format!(in heap; "{count}")?;
-    for k in 0..count {
-        if let Some(value) = axis.key_value(hint, k) {
-            push_label(&mut text, value)?;
-        }
+    for value in key_points(axis, hint) {
+        push_label(&mut text, value)?;
     }
     Ok(text)
 }
@@ -81,17 +80,9 @@ fn push_label(text: &mut String, value: AnyValue) -> Result<(), Fault> {
     let mut scratch = [0; 32];
     let length = AnyLabel.format(value, &mut scratch)?;
     text.push(' ')?;
-    for byte in scratch.iter().take(length) {
-        text.push(char::from(*byte))?;
-    }
+    // each byte as a character: to read them as UTF-8 would add a failure that cannot be
+    text.extend(scratch.iter().take(length).map(|byte| char::from(*byte)))?;
     Ok(())
-}
-
-// Two limits.
-fn limits(words: &mut Words<'_>) -> Result<(i32, i32), Unread>
-    ensures { OnOk result (left words.new < left words.old) }
-{
-    Ok((words.number::<i32>()?, words.number::<i32>()?))
 }
 
 // A value: a number, or `e` or `c` and the number of a station.
@@ -108,22 +99,18 @@ fn value(words: &mut Words<'_>, kind: Kind) -> Result<AnyValue, Unread>
     }
 }
 
-// `whole LO HI` or `stations N`, and any layers.
+// `whole LO HI` or `stations N`, and any layers. The kind stands beside the axis, since one that is refused has none, and its layers are
+// still read by it.
 fn axis(words: &mut Words<'_>) -> Result<(Kind, Made), Unread> {
     match words.next()? {
         "whole" => {
-            let (lo, hi) = limits(words)?;
-            let below = match WholeAxis::new(lo, hi) {
-                Ok(axis) => Ok(Layered::new(AnyAxis::Whole(axis))),
-                Err(refusal) => Err(refusal),
-            };
+            let (lo, hi) = words.pair()?;
+            let below = WholeAxis::new(lo, hi).map(|axis| Layered::new(AnyAxis::Whole(axis)));
             Ok((Kind::Whole, layers(words, Kind::Whole, below)?))
         }
         "stations" => {
-            let below = match StationAxis::new(words.number::<u32>()?) {
-                Ok(axis) => Ok(Layered::new(AnyAxis::Stations(axis))),
-                Err(refusal) => Err(refusal),
-            };
+            let n = words.number::<u32>()?;
+            let below = StationAxis::new(n).map(|axis| Layered::new(AnyAxis::Stations(axis)));
             Ok((Kind::Station, layers(words, Kind::Station, below)?))
         }
         _ => Err(Unread),
@@ -144,17 +131,11 @@ fn layer(words: &mut Words<'_>, kind: Kind, below: Made) -> Result<Made, Unread>
     ensures { OnOk result (left words.new < left words.old) }
 {
     match words.next()? {
-        "turned" => match below {
-            Ok(axis) => Ok(Ok(axis.turned())),
-            Err(refusal) => Ok(Err(refusal)),
-        },
+        "turned" => Ok(below.map(|axis| axis.turned())),
         "part" => {
             let from = value(words, kind)?;
             let to = value(words, kind)?;
-            match below {
-                Ok(axis) => Ok(Ok(axis.part(from, to))),
-                Err(refusal) => Ok(Err(refusal)),
-            }
+            Ok(below.map(|axis| axis.part(from, to)))
         }
         _ => Err(Unread),
     }

@@ -5,6 +5,7 @@ use crate::fault::{Fault, Unread};
 use crate::words::Words;
 use area::Area;
 use size::kinds::Size;
+use size::refusal::Refusal;
 use std::alloc::Global;
 use std::fmt::Write;
 
@@ -36,20 +37,13 @@ enum Split {
 /// `SPLIT X0 Y0 X1 Y1` and what the split takes: the number of areas, then the corners of each.
 pub(crate) fn answer(heap: Global, words: &mut Words<'_>) -> Result<String, Fault> {
     let name = words.next()?;
-    let (x0, y0) = corner(words)?;
-    let (x1, y1) = corner(words)?;
+    let (x0, y0) = words.pair()?;
+    let (x1, y1) = words.pair()?;
     let split = Split::read(heap, name, words)?;
     words.done()?;
     let whole = Area::new(x0, y0, x1, y1)?;
     let parts = split.parts(heap, &whole)?;
     listed(heap, &parts)
-}
-
-// A place: x, then y.
-fn corner(words: &mut Words<'_>) -> Result<(i32, i32), Unread>
-    ensures { OnOk result (left words.new < left words.old) }
-{
-    Ok((words.number::<i32>()?, words.number::<i32>()?))
 }
 
 // Two sizes in a row.
@@ -64,10 +58,7 @@ fn sizes(heap: Global, words: &mut Words<'_>) -> Result<Vec<Size>, Fault>
     ensures { OnOk result (left words.new ≤ left words.old) }
 {
     let mut all = Vec::new(heap);
-    while let Some(word) = words.peek() {
-        if word == "y" {
-            break;
-        }
+    while words.peek().is_some_and(|word| word != "y") {
         all.push(words.size()?)?;
     }
     Ok(all)
@@ -132,32 +123,41 @@ impl Split {
                 let (left, right) = whole.split_horizontally(*x)?;
                 Ok(vec![in heap; left, right]?)
             }
-            Split::Evenly { rows, cols } => evenly(heap, whole, *rows, *cols),
-            Split::ByBreakpoints { xs, ys } => by_breakpoints(heap, whole, xs, ys),
+            Split::Evenly { rows, cols } => {
+                // at most 1,000 rows and columns
+                let most = (*rows).min(1000) * (*cols).min(1000);
+                cut(
+                    heap,
+                    whole,
+                    most,
+                    |out| whole.split_evenly((*rows, *cols), out),
+                )
+            }
+            Split::ByBreakpoints { xs, ys } => {
+                // at most 1,000 breakpoints each way, so 1,001 rows and columns
+                let most = (xs.len().min(1000) + 1) * (ys.len().min(1000) + 1);
+                cut(
+                    heap,
+                    whole,
+                    most,
+                    |out| whole.split_by_breakpoints(xs, ys, out),
+                )
+            }
         }
     }
 }
 
-// The split takes at most 1,000 rows and columns. Room is lent for all that it can write, so it never
-// refuses the room as too short.
-fn evenly(heap: Global, whole: &Area, rows: usize, cols: usize) -> Result<Vec<Area>, Fault> {
-    let most = rows.min(1000) * cols.min(1000);
-    let mut parts = vec![in heap; *whole; most]?;
-    let count = whole.split_evenly((rows, cols), parts.as_mut_slice())?;
-    parts.truncate(count);
-    Ok(parts)
-}
-
-// The split takes at most 1,000 breakpoints each way, so 1,001 rows and columns. Room is lent as above.
-fn by_breakpoints(
+// The areas that a split writes. Room is lent for `most`, all that it can write, so it never refuses the room as too short.
+fn cut<F: FnOnce(&mut [Area]) -> Result<usize, Refusal>>(
     heap: Global,
     whole: &Area,
-    xs: &[Size],
-    ys: &[Size],
-) -> Result<Vec<Area>, Fault> {
-    let most = (xs.len().min(1000) + 1) * (ys.len().min(1000) + 1);
+    most: usize,
+    split: F,
+) -> Result<Vec<Area>, Fault>
+    requires { F.IsAlwaysCallable split }
+{
     let mut parts = vec![in heap; *whole; most]?;
-    let count = whole.split_by_breakpoints(xs, ys, parts.as_mut_slice())?;
+    let count = split(parts.as_mut_slice())?;
     parts.truncate(count);
     Ok(parts)
 }

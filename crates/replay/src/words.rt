@@ -3,7 +3,7 @@ ghost use Rattle.replay.specs.Lines.{left};
 
 use crate::fault::Unread;
 use size::kinds::Size;
-use size::relative::RelativeSize;
+use size::relative::{RelativeSize, RelativeSizeWithBound};
 use std::str::FromStr;
 
 /// The words of a line that are still to be read.
@@ -63,10 +63,14 @@ impl<'a> Words<'a> {
         T::Err: Drop,
         ensures { OnOk result (left self.new + 1 ≡ left self.old) }
     {
-        match self.next()?.parse::<T>() {
-            Ok(n) => Ok(n),
-            Err(_) => Err(Unread),
-        }
+        self.next()?.parse::<T>().map_err(|_| Unread)
+    }
+
+    /// Takes the next two words, whole numbers.
+    pub fn pair(&mut self) -> Result<(i32, i32), Unread>
+        ensures { OnOk result (left self.new < left self.old) }
+    {
+        Ok((self.number::<i32>()?, self.number::<i32>()?))
     }
 
     /// Refuses a line that goes on.
@@ -109,13 +113,7 @@ impl<'a> Words<'a> {
     fn bounded(&mut self, share: RelativeSize) -> Result<Size, Unread>
         ensures { OnOk result (left self.new ≤ left self.old) }
     {
-        let Some(first) = self.bound()? else {
-            return Ok(Size::Relative(share));
-        };
-        let mut size = match first {
-            Bound::Min(n) => share.min(n),
-            Bound::Max(n) => share.max(n),
-        };
+        let mut size = RelativeSizeWithBound::from(share);
         while let Some(bound) = self.bound()? {
             size = match bound {
                 Bound::Min(n) => size.min(n),

@@ -1,14 +1,12 @@
 -- Floats as whole numbers within 30,000 either way. Assumes nothing.
-use Rattle.std.proofs.Common.{◌≡◌, ℕ, zero, suc, ◌+◌, ◌-◌, ◌*◌, ◌/◌, ◌^◌, ◌<◌, ◌≤◌, min, Bool, true, false, cond, not, ◌&&◌, T, ltb, leb, ℤ, pos, negsuc, neg_ℤ, Some, None, Ok, Err, Result, sym, refl, ap, ◌∙◌, subst, true≢false, div-lt_iff_lt-mul, add_comm, mul-pos, le-div_iff_mul-le, mul-one, mul-div_cancel, arith, ltb-false, ltb-true}
+use Rattle.std.proofs.Common.{◌≡◌, ℕ, zero, suc, ◌+◌, ◌-◌, ◌*◌, ◌/◌, ◌^◌, ◌<◌, ◌≤◌, min, Bool, true, false, cond, ltb, ℤ, pos, negsuc, neg_ℤ, Some, Ok, Err, sym, refl, ap, ◌∙◌, div-lt_iff_lt-mul, add_comm, mul-pos, le-div_iff_mul-le, mul-one, mul-div_cancel, arith, ltb-false, ltb-true}
 use mathlib.Core.Bool.{false≢true}
-use lib.Signed.{le_z}
-use lib.Ieee.{Float, nan, inf, fin, up, down, binary64, lt, neg, of_bits, to_signed, round}
+use lib.Ieee.{Float, nan, inf, fin, up, down, binary64, lt, neg, of_bits, to_signed}
 use lib.Ieee.Fits.{up_pos, down_pos}
 use lib.Ieee.Exact.{HasValue}
 use lib.Ieee.Back.{round_whole}
 use Rattle.std.proofs.lemmas.Bool.Decides.{nat_tests}
 use Rattle.std.specs.Float.{round_with, float_round}
-use Rattle.size.specs.declared.refusal.Refusal.{Refusal}
 use Rattle.size.specs.declared.refusal.Refusal.TheVariants.{Range}
 use Rattle.size.specs.Sizes.{signed, cut, half_up, whole, limited}
 

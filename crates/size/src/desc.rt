@@ -20,7 +20,7 @@ impl HasDimension for (u32, u32) {
     ghost sides = { λ d. d };
 
     fn dim(&self) -> (u32, u32) {
-        (self.0, self.1)
+        *self
     }
 }
 
@@ -40,7 +40,7 @@ pub trait SizeDesc: Copy {
 pub(crate) fn limit(n: i32) -> Result<i32, Refusal>
     ensures { result ≡ limited (Some n) }
 {
-    if -30000 <= n && n <= 30000 {
+    if (-30000..=30000).contains(&n) {
         Ok(n)
     } else {
         Err(Refusal::Range)
@@ -58,7 +58,7 @@ fn drop_fraction(x: f64) -> Result<i32, Refusal>
     }
 }
 
-// The nearest whole number, halves away from zero.
+// The nearest whole number, halves away from zero. Apart, so that a wrong way to round is refused here.
 fn round(x: f64) -> f64
     ensures { result ≡ float_round binary64 x }
 {

@@ -1,5 +1,8 @@
-ghost use Rattle.std.specs.Prelude.{◌≡◌};
-ghost use Rattle.size.specs.Refusals.{number_of};
+ghost use Rattle.std.specs.Prelude.{◌≡◌, Some};
+ghost use Rattle.size.specs.Refusals.{number_of, refused_text};
+
+use std::error::Error;
+use std::fmt;
 
 /// Why a call was refused: one list for the whole library, each case with its number.
 #[derive(Clone, Copy, PartialEq, Eq, Debug)]
@@ -26,12 +29,12 @@ pub enum Refusal {
     NoMark { place: usize },
 }
 
-impl Refusal {
-    /// The number that stands for the refusal in every statement and every file.
-    pub fn number(self) -> u8
-        ensures { result ≡ number_of self }
-    {
-        match self {
+/// The number that stands for the refusal in every statement and every file.
+impl From<Refusal> for u8 {
+    ghost from_gives = { λ e n. n ≡ number_of e };
+
+    fn from(e: Refusal) -> u8 {
+        match e {
             Refusal::Range => 1,
             Refusal::NoArea => 2,
             Refusal::NoPlot => 3,
@@ -45,3 +48,15 @@ impl Refusal {
         }
     }
 }
+
+/// By its number, as `refused 2`.
+impl fmt::Display for Refusal {
+    ghost output = { λ e. Some (refused_text e) };
+
+    fn fmt<W: fmt::Write>(&self, f: &mut fmt::Formatter<W>) -> fmt::Result {
+        let number = u8::from(*self);
+        write!(f, "refused {number}")
+    }
+}
+
+impl Error for Refusal {}

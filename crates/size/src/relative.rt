@@ -21,22 +21,14 @@ impl RelativeSize {
     pub fn min(self, min_sz: i32) -> RelativeSizeWithBound
         ensures { result ≡ record { size = self; min = Some min_sz; max = None } }
     {
-        RelativeSizeWithBound {
-            size: self,
-            min: Some(min_sz),
-            max: None,
-        }
+        RelativeSizeWithBound::from(self).min(min_sz)
     }
 
     /// The same share, at most `max_sz` pixels.
     pub fn max(self, max_sz: i32) -> RelativeSizeWithBound
         ensures { result ≡ record { size = self; min = None; max = Some max_sz } }
     {
-        RelativeSizeWithBound {
-            size: self,
-            min: None,
-            max: Some(max_sz),
-        }
+        RelativeSizeWithBound::from(self).max(max_sz)
     }
 }
 
@@ -63,15 +55,27 @@ pub struct RelativeSizeWithBound {
     max: Option<i32>,
 }
 
+/// The share with no bound.
+impl From<RelativeSize> for RelativeSizeWithBound {
+    ghost from_gives = { λ s r. r ≡ record { size = s; min = None; max = None } };
+
+    fn from(size: RelativeSize) -> RelativeSizeWithBound {
+        RelativeSizeWithBound {
+            size,
+            min: None,
+            max: None,
+        }
+    }
+}
+
 impl RelativeSizeWithBound {
     /// The same with this lower bound, in place of any that it had.
     pub fn min(self, min_sz: i32) -> RelativeSizeWithBound
         ensures { result ≡ record { size = self.size; min = Some min_sz; max = self.max } }
     {
         RelativeSizeWithBound {
-            size: self.size,
             min: Some(min_sz),
-            max: self.max,
+            ..self
         }
     }
 
@@ -80,30 +84,17 @@ impl RelativeSizeWithBound {
         ensures { result ≡ record { size = self.size; min = self.min; max = Some max_sz } }
     {
         RelativeSizeWithBound {
-            size: self.size,
-            min: self.min,
             max: Some(max_sz),
+            ..self
         }
     }
-}
 
-// `size`, or the lower bound where that is larger.
-fn raise(size: i32, low: Option<i32>) -> i32
-    ensures { result ≡ raised low size }
-{
-    match low {
-        Some(low) => low.max(size),
-        None => size,
-    }
-}
-
-// `size`, or the upper bound where that is smaller.
-fn cut(size: i32, high: Option<i32>) -> i32
-    ensures { result ≡ lowered high size }
-{
-    match high {
-        Some(high) => high.min(size),
-        None => size,
+    // `size`, raised to the lower bound, then cut to the upper.
+    fn hold(self, size: i32) -> i32
+        ensures { result ≡ lowered self.max (raised self.min size) }
+    {
+        let raised = self.min.map_or(size, |low| low.max(size));
+        self.max.map_or(raised, |high| high.min(raised))
     }
 }
 
@@ -114,11 +105,11 @@ impl SizeDesc for RelativeSizeWithBound {
 
     fn in_pixels<T: HasDimension>(&self, parent: &T) -> Result<i32, Refusal> {
         let size = self.size.in_pixels(parent)?;
-        limit(cut(raise(size, self.min), self.max))
+        limit(self.hold(size))
     }
 }
 
-// A hundredth: so many percent as a share.
+// A hundredth: so many percent as a share. Said once for the impls below.
 fn as_share(percent: f64) -> f64
     ensures { result ≡ hundredth percent }
 {
@@ -156,6 +147,7 @@ pub trait AsRelative: Copy {
     }
 }
 
+// An impl for each, since one for all that convert into f64 would promise by a relation, as conversions do, and not by equation.
 impl AsRelative for f64 {
     ghost number = { λ x. x };
 

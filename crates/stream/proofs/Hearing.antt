@@ -1,18 +1,14 @@
 -- What was written reads back.
-use Rattle.std.proofs.Common.{◌≡◌, ℕ, ◌+◌, ◌-◌, ◌≤◌, Bool, true, false, cond, ◌&&◌, ltb, leb, List, [], ◌∷◌, ◌++◌, length, Some, None, Ok, Err, Option, Result, sym, refl, ap, ◌∙◌, subst, zero-le, arith}
+use Rattle.std.proofs.Common.{◌≡◌, ℕ, ◌+◌, ◌≤◌, List, [], ◌∷◌, ◌++◌, length, Some, None, Ok, Err, Option, sym, refl, ap, ◌∙◌, zero-le, arith}
 use Rattle.std.proofs.lemmas.List.{append-nil, append_assoc}
 use Rattle.std.proofs.lemmas.Bool.Decides.{nat_tests}
-use Rattle.size.specs.declared.refusal.Refusal.{Refusal}
-use Rattle.size.specs.declared.refusal.Refusal.TheVariants.{Scale, Short}
 use Rattle.backend.specs.Marks.{SMark}
-use Rattle.backend.specs.Devices.{Model}
 use Rattle.devices.specs.Lists.{bytes_in}
 use Rattle.devices.proofs.Keeping.{placed-length}
 use Rattle.codec.specs.Format.{InRange, encode, header, stream}
 use Rattle.codec.specs.Reading.{read}
 use Rattle.stream.specs.Openings.{marks_in, opened}
-use Rattle.stream.specs.Plays.{Played}
-use Rattle.stream.specs.Written.{Written, answers_of, begun, front, grown, heard, lent, room_for}
+use Rattle.stream.specs.Written.{Written, answers_of, beginning, begun, front, grown, lent}
 use Rattle.stream.specs.RoundTrips.{Made, RoundTrip, after_put, after_puts, if_taken, taken_of}
 use Rattle.codec.proofs.Scans.{read-stream}
 use Rattle.stream.proofs.Appending.{front_grown, marks_more, marks_range, marks_stream, whole_more}
@@ -22,12 +18,11 @@ use Rattle.stream.proofs.Appending.{front_grown, marks_more, marks_range, marks_
 read_marks : (bs : List ℕ) → bs ≡ stream (marks_in bs) → read bs ≡ Ok (marks_in bs)
 read_marks bs e = ap read e ∙ read-stream (marks_in bs) (marks_range bs)
 
-heard_by : (bs : List ℕ) (letters : Option ℕ) → bs ≡ opened letters (marks_in bs) → read bs ≡ elim letters [ Some c ↦ Ok (marks_in bs) | None ↦ Err 0 ]
-heard_by bs (Some c) e = read_marks bs e
-heard_by bs None e = ap read e
-
-pub played_back : (w : Written) (bs : List ℕ) (d d' : Model) (r : Result ℕ Refusal) → front w ≡ opened w.letters (marks_in (front w)) → bs ≡ front w → Played (read bs) d r d' → Played (heard w) d r d'
-played_back w bs d d' r e is p = subst (λ x. Played x d r d') (ap read is ∙ heard_by (front w) w.letters e) p
+-- what reads back; the first part shows `grind` where to use it
+pub heard_read : (bs : List ℕ) (letters : Option ℕ) → bs ≡ opened letters (marks_in bs) →
+    (opened letters (marks_in bs) ≡ opened letters (marks_in bs)) × (read bs ≡ elim letters [ Some c ↦ Ok (marks_in bs) | None ↦ Err 0 ])
+heard_read bs (Some c) e = (refl, read_marks bs e)
+heard_read bs None e = (refl, ap read e)
 
 -- ---- any sequence of puts
 
@@ -38,15 +33,8 @@ record Sound (w : Written) : Type 0 where
   whole : front w ≡ stream (marks_in (front w))
 
 -- a mark that is taken fits, and its text is short
-room_of : (o : Option ℕ) (c left n b : ℕ) → o ≡ Some c → cond (ltb 64 b) (Some 3) (room_for o left n) ≡ None → (b ≤ 64) × (n ≤ left)
-room_of (Some d) c left n b e t = (grind (arith, nat_tests), grind (arith, nat_tests))
-room_of None c left n b e t = let z : ◌≡◌ {A = ℕ} 0 1 = cc in absurd (omega arith)
-
 taken_room : (w : Written) (m : SMark) → Sound w → answers_of w [] m ≡ None → (bytes_in m ≤ 64) × (w.used + length (encode m) ≤ length w.bytes)
-taken_room w m s t =
-    let r = room_of w.letters s.some (length w.bytes - (w.used + 0)) (length (encode m)) (bytes_in m) s.letters t in
-    let short = s.short in
-    (r.0, omega (arith, r.1))
+taken_room w m s t = let l = s.letters in let short = s.short in (grind (arith, nat_tests), grind (arith, nat_tests))
 
 grown_sound : (w : Written) (m : SMark) → Sound w → InRange m → w.used + length (encode m) ≤ length w.bytes → Sound (grown w (encode m))
 grown_sound w m s i h =
@@ -79,11 +67,6 @@ puts_marks w (m ∷ ms) s h =
     puts_marks (after_put w m) ms (put_sound (answers_of w [] m) w m refl s h.0) h.1
     ∙ put_marks_lem (answers_of w [] m) w m (taken_of (after_put w m) ms) refl s h.0
 
-begun_by : (a b : Bool) → cond {A = Result (Unit {0}) Refusal} a (cond b (Ok tt) (Err Short)) (Err Scale) ≡ Ok tt → b ≡ true
-begun_by true true e = refl
-begun_by true false e = let z : ◌≡◌ {A = ℕ} 0 1 = cc in absurd (omega arith)
-begun_by false b e = let z : ◌≡◌ {A = ℕ} 0 1 = cc in absurd (omega arith)
-
 begun_sound : (bs : List ℕ) (c : ℕ) → 5 ≤ length bs → Sound (begun (lent bs) c)
 begun_sound bs c h =
     let f = front_grown bs 0 header zero-le in
@@ -94,10 +77,12 @@ begun_sound bs c h =
 begun_marks : (bs : List ℕ) (c : ℕ) → marks_in (front (begun (lent bs) c)) ≡ []
 begun_marks bs c = ap marks_in (front_grown bs 0 header zero-le) ∙ marks_stream [] tt
 
+begun_room : (bs : List ℕ) (c : ℕ) → beginning (lent bs) c ≡ Ok tt → 5 ≤ length bs
+begun_room bs c e = grind (arith, nat_tests)
+
 pub round_trip : RoundTrip
 round_trip bs c ms e h =
-    let room : leb 5 (length bs) ≡ true = begun_by (leb 1 c && leb c 100) (leb 5 (length bs)) e in
     let w = begun (lent bs) c in
-    let s = begun_sound bs c (grind (arith, nat_tests)) in
+    let s = begun_sound bs c (begun_room bs c e) in
     let marks : marks_in (front (after_puts w ms)) ≡ taken_of w ms = puts_marks w ms s h ∙ ap (λ l. l ++ taken_of w ms) (begun_marks bs c) in
     read_marks (front (after_puts w ms)) (puts_sound w ms s h).whole ∙ ap Ok marks

@@ -1,4 +1,3 @@
-pub mod Steps
 pub mod Playing
 pub mod Appending
 pub mod Hearing

@@ -1,9 +1,10 @@
 -- A reader's steps: the header, then one mark after another.
-use Rattle.std.specs.Prelude.{◌≡◌, ℕ, ◌-◌, ◌<◌, cond, List, [], ◌∷◌, ◌++◌, length, drop, Some, None, Ok, Err, Option, Result}
+use Rattle.std.specs.Prelude.{◌≡◌, ℕ, ◌-◌, ◌<◌, cond, List, [], ◌∷◌, ◌++◌, length, drop, Some, None, Ok, Err, Option, Result, option_map}
+use Rattle.std.specs.Result.{result_map_both}
 use Rattle.size.specs.declared.refusal.Refusal.{Refusal}
 use Rattle.size.specs.declared.refusal.Refusal.TheVariants.{NoMark}
-use Rattle.backend.specs.declared.shape.Shape.{Shape}
-use Rattle.backend.specs.Marks.{SMark, shape_value}
+use Rattle.backend.specs.declared.mark.Mark.{Mark}
+use Rattle.backend.specs.Marks.{SMark, mark_of}
 use Rattle.stream.specs.declared.reader.StreamReader.{StreamReader}
 use Rattle.codec.specs.Format.{InRange, encode}
 use Rattle.codec.specs.Reading.{first, headed}
@@ -23,17 +24,14 @@ place_of l = length l.all - length l.rest
 
 -- a reader past the header, or refusal 10 at the start
 abbrev pub opened_by : Result StreamReader Refusal → Result Left Refusal
-opened_by (Ok r) = Ok (left_in r)
-opened_by (Err e) = Err e
+opened_by r = result_map_both left_in (λ e. e) r
 
 abbrev pub opens : List ℕ → Result Left Refusal
 opens bs = cond (headed bs) (Ok (record { all = bs; rest = drop 5 bs })) (Err (NoMark 0))
 
 -- the next mark, none at the end, or refusal 10 where none starts
-abbrev pub read_by : Result (Option Shape) Refusal → Result (Option SMark) Refusal
-read_by (Ok None) = Ok None
-read_by (Ok (Some s)) = Ok (Some (shape_value s))
-read_by (Err e) = Err e
+abbrev pub read_by : Result (Option Mark) Refusal → Result (Option SMark) Refusal
+read_by r = result_map_both (option_map mark_of) (λ e. e) r
 
 abbrev pub or_refused : Option SMark → ℕ → Result (Option SMark) Refusal
 or_refused (Some m) place = Ok (Some m)

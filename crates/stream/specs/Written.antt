@@ -2,11 +2,15 @@
 use Rattle.std.specs.Prelude.{◌≡◌, ℕ, ◌+◌, ◌-◌, ◌*◌, ◌≤◌, Bool, true, false, cond, ◌&&◌, List, length, take, Some, None, Ok, Err, Option, Result, nat_le, nat_lt, refl}
 use Rattle.std.proofs.Common.{mul-le-mul, arith, leb-true}
 use Rattle.std.specs.Borrow.{GName}
+use Rattle.std.specs.Option.{option_map}
 use Rattle.std.specs.Option as options
 use Rattle.size.specs.declared.refusal.Refusal.{Refusal}
 use Rattle.size.specs.declared.refusal.Refusal.TheVariants.{Scale, Short}
 use Rattle.backend.specs.Marks.{SMark}
 use Rattle.backend.specs.Devices.{Answers, Bounded, Extents, Model}
+use Rattle.devices.specs.declared.refusal.PutRefusal.{PutRefusal}
+use Rattle.devices.specs.declared.refusal.PutRefusal.TheVariants.{NoRoom, LongText}
+use Rattle.devices.specs.Refusals.{put_number}
 use Rattle.devices.specs.Lists.{bytes_in}
 use Rattle.devices.specs.Placed.{placed}
 use Rattle.codec.specs.Format.{InRange, encode, encodes, header}
@@ -41,18 +45,18 @@ grown w bs = record { bytes = placed w.bytes w.used bs; used = w.used + length b
 abbrev pub Encoded : List ℕ → Type 0
 Encoded bs = (m : SMark) × (InRange m × (bs ≡ encode m))
 
--- whether n bytes more are taken where so many are left: 1 where they do not fit or nothing is begun
-abbrev pub room_for : Option ℕ → ℕ → ℕ → Option ℕ
-room_for (Some c) left n = cond (nat_lt left n) (Some 1) None
-room_for None left n = Some 1
+-- whether n bytes more are taken where so many are left: no room where they do not fit or nothing is begun
+abbrev pub room_for : Option ℕ → ℕ → ℕ → Option PutRefusal
+room_for (Some c) left n = cond (nat_lt left n) (Some NoRoom) None
+room_for None left n = Some NoRoom
 
--- what is answered to a mark: 3 where its text is over 64 bytes, then by the room for its bytes
-abbrev pub verdict : Option ℕ → ℕ → SMark → Option ℕ
-verdict letters left m = cond (nat_lt 64 (bytes_in m)) (Some 3) (room_for letters left (length (encode m)))
+-- what is answered to a mark: first whether its text is over 64 bytes, then by the room for its bytes
+abbrev pub verdict : Option ℕ → ℕ → SMark → Option PutRefusal
+verdict letters left m = cond (nat_lt 64 (bytes_in m)) (Some LongText) (room_for letters left (length (encode m)))
 
--- with these marks more, which use up bytes
+-- by numbers, with these marks more, which use up bytes
 abbrev pub answers_of : Written → Answers
-answers_of w ms m = verdict w.letters (length w.bytes - (w.used + length (encodes ms))) m
+answers_of w ms m = option_map put_number (verdict w.letters (length w.bytes - (w.used + length (encodes ms))) m)
 
 -- bytes × c wide and 2c high, for a text of at most 64 bytes; letters are never wider than 100
 abbrev pub sized : Option ℕ → Extents
@@ -78,8 +82,3 @@ heard w = elim w.letters [ Some c ↦ Ok (marks_in (front w)) | None ↦ Err 0 ]
 
 abbrev pub stream_model : Written → List GName → Model
 stream_model w place = record { marks = marks_in (front w); answer = answers_of w; extent = sized w.letters; bounded = sized_bounded w.letters; place = place }
-
--- one of two, by whether the answer is a refusal
-abbrev pub on_ok : {U E X : Type 0} → Result U E → X → X → X
-on_ok (Ok _) x y = x
-on_ok (Err e) x y = y

@@ -4,6 +4,7 @@ ghost use Rattle.stream.specs.Openings.{letters_ok, marks_in, opened};
 /// A device that writes its marks as a stream into a lent slice of bytes.
 #[derive(Drop)]
 pub struct StreamDevice<'a> {
+    // How far it is written stands beside it: the memory is lent, and nothing here has a heap.
     out: &'a mut [u8],
     used: usize,
     letters: Option<u32>,

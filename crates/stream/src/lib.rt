@@ -4,6 +4,5 @@
 pub mod device;
 pub mod play;
 pub mod reader;
-mod restore;
 #[cfg(test)]
 mod tests;

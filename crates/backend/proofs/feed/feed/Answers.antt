@@ -1,8 +1,5 @@
-use Rattle.backend.proofs.Feeding.{fed_refused, fed_taken}
+use Rattle.backend.proofs.Feeding.{fed_put}
 use Rattle.backend.proofs.feed.feed.Goals as goal
 
-pub returns-in-Ok : goal.returns-in-Ok
-returns-in-Ok g c = rw c.counted.ensures (fed_taken c.in-Ok.ensures)
-
-pub returns-in-Err : goal.returns-in-Err
-returns-in-Err g c = rw c.refused.ensures (fed_refused c.in-Err.ensures)
+pub returns : goal.returns
+returns g c = fed_put c.put.result c.put.ensures c.counted.ensures

@@ -76,7 +76,7 @@ impl<'a> StreamDevice<'a> {
     }
 
     // Writes a mark, or answers why it does not.
-    // Writes a mark's bytes. Apart from `put`, since its proof has answers: a wrong `put` is then refused at the source.
+    // Writes a mark's bytes, or refuses it by name; `put` answers the name's number.
     fn write(&mut self, mark: Mark) -> Result<(), PutRefusal>
         ensures put { Put (streamed self.old) (mark_of mark.entry) (numbered result) (streamed self.new) }
         ensures held { written_by self.new ≡ on_ok result (grown (written_by self.old) (encode (mark_of mark.entry))) (written_by self.old) }

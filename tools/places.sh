@@ -1,8 +1,9 @@
 #!/bin/sh
 # Counts the places in src/ (and, for 8, in proofs/) where an older form may stand: `sh tools/places.sh [FOLDER] [-v]`, FOLDER a checkout (this one).
 # With -v the lines themselves. What is counted is looked at by a reader; docs/DESIGN-PASS.md says what became of each.
-cd "${1:-$(dirname "$0")/..}" || exit 2
-show=$2
+show=
+for word; do if [ "$word" = -v ]; then show=-v; else folder=$word; fi; done
+cd "${folder:-$(dirname "$0")/..}" || exit 2
 src=$(git ls-files 'crates/*/src/*.rt')
 count() {
     name=$1; shift

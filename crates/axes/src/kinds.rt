@@ -26,7 +26,7 @@ pub enum AnyAxis {
 
 impl AnyValue {
     // The value as a number.
-    // A station counts as the first of the axis: none begins below this.
+    // A station counts as the first of the axis: none begins below this. No `From`, since the value is lost.
     fn number(self) -> i32
         ensures { result ≡ number_in self }
     {
@@ -37,7 +37,7 @@ impl AnyValue {
     }
 
     // The value as a station.
-    // A whole number counts as the first of the axis: each begins at this edge.
+    // A whole number counts as the first of the axis: each begins at this edge. No `From`, since the value is lost.
     fn station(self) -> Station
         ensures { result ≡ station_in self }
     {

@@ -39,7 +39,7 @@ impl StationAxis {
         }
     }
 
-    // The centres at every step-th station.
+    // The centres at every step-th station. What is asked are their own facts, owed where they are made.
     fn centres(self, step: u32) -> Centres
         requires { (0 < step) × (step ≤ 200) }
         ensures axis { result.axis ≡ self }
@@ -84,7 +84,7 @@ impl Row for Centres {
     }
 }
 
-// As `WholeAxis`'s: one impl for both would be a blanket one of another crate's trait.
+// As `WholeAxis`'s: a struct over either kind, to have one impl, would be no plainer.
 impl Ranged for StationAxis {
     type ValueType = Station;
 

@@ -43,7 +43,7 @@ impl WholeAxis {
         )
     }
 
-    // Its multiples of a step.
+    // Its multiples of a step. What is asked are their own facts, owed where they are made.
     fn multiples(self, step: u32) -> Multiples
         requires { (0 < step) × (step ≤ 5000000) }
         ensures axis { result.axis ≡ self }

@@ -80,6 +80,7 @@ impl TryFrom<u8> for Pos {
         if number > 8 {
             return Err(Refusal::Range);
         }
+        // No `TryFrom` for the parts: past the test neither is out of range, and those would refuse.
         let h_pos = match number / 3 {
             0 => HPos::Left,
             1 => HPos::Center,

@@ -8,7 +8,7 @@ use size::refusal::Refusal;
 use std::test::Fail;
 use stream::device::StreamDevice;
 
-// Whether two lists hold the same marks.
+// Whether two lists hold the same marks. By number, as a list is read.
 fn same(a: &ListDevice, b: &ListDevice) -> bool {
     a.len() == b.len() && (0..a.len()).all(|k| a.get(k) == b.get(k))
 }

@@ -38,14 +38,15 @@ impl Ruling {
     pub(crate) fn put<D: Device>(&self, device: &mut D, plot: &Area) -> Result<u32, Refusal> {
         let (columns, rows) = plot.get_pixel_range();
         let (top, bottom) = ends(&rows);
-        let mut put = put_frame(device, plot)?;
+        let mut lines = Lines { device, put: 0 };
+        lines.put_frame(plot)?;
         // By number, as `key_place` is asked, which promises a place in the plot.
         for k in 0..self.stations.key_count(LABELS) {
             if let Some(x) = key_place(&self.stations, LABELS, k, ends(&columns))? {
-                put = put_line(device, put, (x, bottom), (x, top), 20)?;
+                lines.put_line((x, bottom), (x, top), 20)?;
             }
         }
-        Ok(put)
+        Ok(lines.put)
     }
 
     /// The same on a list device with room for so many marks: how many it holds then, and the answer.
@@ -67,37 +68,40 @@ pub(crate) fn ends(pixels: &Range<i32>) -> (i32, i32) {
     (pixels.start, pixels.end.saturating_sub(1))
 }
 
-// Puts the four lines around the plot, clockwise from its upper left corner.
-fn put_frame<D: Device>(device: &mut D, plot: &Area) -> Result<u32, Refusal> {
-    let (columns, rows) = plot.get_pixel_range();
-    let ((x0, x1), (y0, y1)) = (ends(&columns), ends(&rows));
-    let mut put = 0;
-    let mut from = (x0, y0);
-    for to in [(x1, y0), (x1, y1), (x0, y1), (x0, y0)] {
-        put = put_line(device, put, from, to, 100)?;
-        from = to;
-    }
-    Ok(put)
+// A device, and how many lines have been put on it.
+#[derive(Drop)]
+struct Lines<'a, D> {
+    device: &'a mut D,
+    put: u32,
 }
 
-// Puts one line more after the first `put` marks, and answers how many there are then.
-fn put_line<D: Device>(
-    device: &mut D,
-    put: u32,
-    from: (i32, i32),
-    to: (i32, i32),
-    ink: u8,
-) -> Result<u32, Refusal> {
-    let line = Line::new(Stroke {
-        x0: from.0,
-        y0: from.1,
-        x1: to.0,
-        y1: to.1,
-        ink,
-    })?;
-    // `feed` answers a usize and takes a u32, so that counting on needs no test.
-    feed(device, put, Mark::line(line))?;
-    Ok(put.saturating_add(1))
+impl<'a, D: Device> Lines<'a, D> {
+    // Puts the four lines around the plot, clockwise from its upper left corner.
+    fn put_frame(&mut self, plot: &Area) -> Result<(), Refusal> {
+        let (columns, rows) = plot.get_pixel_range();
+        let ((x0, x1), (y0, y1)) = (ends(&columns), ends(&rows));
+        let mut from = (x0, y0);
+        for to in [(x1, y0), (x1, y1), (x0, y1), (x0, y0)] {
+            self.put_line(from, to, 100)?;
+            from = to;
+        }
+        Ok(())
+    }
+
+    // Puts one line more.
+    fn put_line(&mut self, from: (i32, i32), to: (i32, i32), ink: u8) -> Result<(), Refusal> {
+        let line = Line::new(Stroke {
+            x0: from.0,
+            y0: from.1,
+            x1: to.0,
+            y1: to.1,
+            ink,
+        })?;
+        // `feed` takes a u32 and answers a usize, so its count is not handed on.
+        feed(self.device, self.put, Mark::line(line))?;
+        self.put = self.put.saturating_add(1);
+        Ok(())
+    }
 }
 
 /// The label of a value.
@@ -108,7 +112,8 @@ pub(crate) fn label<V: Copy, F: ValueFormatter<V>>(
 ) -> anyhow::Result<String> {
     let mut scratch = [0; 32];
     let length = formatter.format(value, &mut scratch)?;
-    // each byte as a character: to read them as UTF-8 would add a failure that cannot be
+    // Each byte as a character: to read them as UTF-8 would add a failure that cannot be. `replay` has these lines too: a function for both
+    // would be no shorter.
     let text = scratch.iter().take(length).map(|byte| char::from(*byte));
     Ok(text.collect(heap)?)
 }

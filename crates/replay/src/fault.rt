@@ -3,6 +3,7 @@ ghost use Rattle.replay.specs.declared.fault.Fault.TheVariants.{Unread as NotRea
 
 use size::refusal::Refusal;
 use std::alloc::{AllocError, AllocFailed};
+use std::fmt;
 
 /// A line that asks nothing: an unknown or a missing word, no number where one is due, or words left over.
 #[derive(Clone, Copy, Debug)]
@@ -14,6 +15,22 @@ pub enum Fault {
     Unread,
     Refused(Refusal),
     Memory,
+}
+
+impl fmt::Display for Unread {
+    fn fmt<W: fmt::Write>(&self, f: &mut fmt::Formatter<W>) -> fmt::Result {
+        f.write_str("unread")
+    }
+}
+
+impl fmt::Display for Fault {
+    fn fmt<W: fmt::Write>(&self, f: &mut fmt::Formatter<W>) -> fmt::Result {
+        match self {
+            Fault::Unread => Unread.fmt(f),
+            Fault::Refused(refusal) => write!(f, "{refusal}"),
+            Fault::Memory => f.write_str("out of memory"),
+        }
+    }
 }
 
 impl From<Unread> for Fault {
@@ -32,6 +49,7 @@ impl From<Refusal> for Fault {
     }
 }
 
+// The library has two errors for want of memory, and `?` converts each.
 impl From<AllocError> for Fault {
     ghost from_gives = { λ _ r. r ≡ Memory };
 

@@ -7,13 +7,13 @@ mod sizes;
 mod splits;
 mod words;
 
-use fault::Fault;
+use fault::{Fault, Unread};
 use std::alloc::{AllocError, Global};
 use std::io;
 use std::io::{BufRead, BufReader};
 use words::Words;
 
-// The answer to one line, by the kind that its first word names.
+// The answer to one line, by the kind that its first word names. The allocator is passed on beside the words, as the language has it.
 fn answer(heap: Global, line: &str) -> Result<String, Fault> {
     let all: Vec<&str> = line.split_whitespace().collect(heap)?;
     let mut words = Words::new(all.as_slice());
@@ -32,9 +32,8 @@ fn reply(rt: &HostRuntime, line: &str) -> io::Result<()> {
     }
     match answer(rt.alloc(), line) {
         Ok(text) => println!(rt; "{text}"),
-        Err(Fault::Unread) => println!(rt; "unread"),
-        Err(Fault::Refused(refusal)) => println!(rt; "{refusal}"),
         Err(Fault::Memory) => Err(AllocError.into()),
+        Err(fault) => println!(rt; "{fault}"),
     }
 }
 
@@ -42,9 +41,8 @@ fn reply(rt: &HostRuntime, line: &str) -> io::Result<()> {
 fn main(rt: HostRuntime) -> io::Result<()> {
     for line in BufReader::new(rt.alloc(), rt.stdin())?.lines(rt.alloc()) {
         match line {
-            Ok(line) => reply(&rt, line.as_str())?,
-            Err(e) if e.kind() == io::ErrorKind::InvalidData => println!(rt; "unread")?,
-            Err(e) => return Err(e),
+            Err(e) if e.kind() == io::ErrorKind::InvalidData => println!(rt; "{}", Unread)?,
+            line => reply(&rt, line?.as_str())?,
         }
     }
     Ok(())

@@ -1,5 +1,4 @@
-ghost use Rattle.std.specs.Prelude.{◌<◌, ◌≤◌, OnOk};
-ghost use Rattle.replay.specs.Lines.{left};
+ghost use Rattle.replay.specs.Lines.{Takes};
 
 use crate::fault::{Fault, Unread};
 use crate::words::Words;
@@ -80,14 +79,14 @@ fn push_label(text: &mut String, value: AnyValue) -> Result<(), Fault> {
     let mut scratch = [0; 32];
     let length = AnyLabel.format(value, &mut scratch)?;
     text.push(' ')?;
-    // each byte as a character: to read them as UTF-8 would add a failure that cannot be
+    // Each byte as a character: to read them as UTF-8 would add a failure that cannot be.
     text.extend(scratch.iter().take(length).map(|byte| char::from(*byte)))?;
     Ok(())
 }
 
 // A value: a number, or `e` or `c` and the number of a station.
 fn value(words: &mut Words<'_>, kind: Kind) -> Result<AnyValue, Unread>
-    ensures { OnOk result (left words.new < left words.old) }
+    ensures { Takes result words.old words.new }
 {
     if kind == Kind::Whole {
         return Ok(AnyValue::Whole(words.number::<i32>()?));
@@ -128,7 +127,7 @@ fn layers(words: &mut Words<'_>, kind: Kind, below: Made) -> Result<Made, Unread
 
 // One layer more.
 fn layer(words: &mut Words<'_>, kind: Kind, below: Made) -> Result<Made, Unread>
-    ensures { OnOk result (left words.new < left words.old) }
+    ensures { Takes result words.old words.new }
 {
     match words.next()? {
         "turned" => Ok(below.map(|axis| axis.turned())),

@@ -1,5 +1,5 @@
 ghost use Rattle.std.specs.Prelude.{◌<◌, ◌≤◌, OnOk};
-ghost use Rattle.replay.specs.Lines.{left};
+ghost use Rattle.replay.specs.Lines.{Takes, left};
 
 use crate::fault::{Fault, Unread};
 use crate::words::Words;
@@ -46,9 +46,9 @@ pub(crate) fn answer(heap: Global, words: &mut Words<'_>) -> Result<String, Faul
     listed(heap, &parts)
 }
 
-// Two sizes in a row.
+// Two sizes in a row. Not by `Words::pair`: a trait for what a word can be read as would be longer than both.
 fn pair(words: &mut Words<'_>) -> Result<(Size, Size), Unread>
-    ensures { OnOk result (left words.new < left words.old) }
+    ensures { Takes result words.old words.new }
 {
     Ok((words.size()?, words.size()?))
 }

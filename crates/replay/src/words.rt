@@ -1,5 +1,5 @@
 ghost use Rattle.std.specs.Prelude.{◌≡◌, ◌+◌, ◌<◌, ◌≤◌, ◌∷◌, length, is_ok, IfOk, MatchOption, MatchResult, OnOk, ◌==◌, slice_index_or};
-ghost use Rattle.replay.specs.Lines.{left};
+ghost use Rattle.replay.specs.Lines.{Takes, left};
 
 use crate::fault::Unread;
 use size::kinds::Size;
@@ -32,6 +32,7 @@ impl<'a> Words<'a> {
         ensures count { MatchResult result (λ _. left self.new + 1 ≡ left self.old) (λ _. left self.old ≡ 0) }
         ensures word { IfOk result (λ w. self.old.rest.now ≡ w ∷ self.new.rest.now) }
     {
+        // A pattern: a field set from what `split_first` lends is not covered by the borrow checker.
         let [first, rest @ ..] = self.rest else {
             return Err(Unread);
         };
@@ -68,7 +69,7 @@ impl<'a> Words<'a> {
 
     /// Takes the next two words, whole numbers.
     pub fn pair(&mut self) -> Result<(i32, i32), Unread>
-        ensures { OnOk result (left self.new < left self.old) }
+        ensures { Takes result self.old self.new }
     {
         Ok((self.number::<i32>()?, self.number::<i32>()?))
     }
@@ -86,7 +87,7 @@ impl<'a> Words<'a> {
 
     /// Takes a size of any kind: `px N`, `upx N`, `real F`, or `w|h|s F` and any number of `min N` and `max N`.
     pub fn size(&mut self) -> Result<Size, Unread>
-        ensures { OnOk result (left self.new < left self.old) }
+        ensures { Takes result self.old self.new }
     {
         match self.next()? {
             "px" => Ok(Size::Pixels(self.number::<i32>()?)),
@@ -98,7 +99,7 @@ impl<'a> Words<'a> {
 
     // What follows the name of a share's side.
     fn share(&mut self, side: &str) -> Result<Size, Unread>
-        ensures { OnOk result (left self.new < left self.old) }
+        ensures { Takes result self.old self.new }
     {
         let part = self.number::<f64>()?;
         match side {

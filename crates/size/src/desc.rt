@@ -65,7 +65,8 @@ fn round(x: f64) -> f64
     x.round()
 }
 
-// `x` to the nearest whole number, unless that lies beyond 30,000 either way.
+// `x` to the nearest whole number, unless that lies beyond 30,000 either way. Its limit is half more than `drop_fraction`'s and it rounds: one
+// function for both would take both as parameters.
 fn round_off(x: f64) -> Result<i32, Refusal>
     ensures { result ≡ limited (nearest x) }
 {
@@ -99,6 +100,7 @@ impl SizeDesc for u32 {
     ghost within = { Prim.search rules };
 
     fn in_pixels<T: HasDimension>(&self, _parent: &T) -> Result<i32, Refusal> {
+        // not by `limit`, since an i32 does not hold every u32
         if *self <= 30000 {
             Ok(*self as i32)
         } else {

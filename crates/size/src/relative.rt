@@ -16,6 +16,7 @@ pub enum RelativeSize {
     Smaller(f64),
 }
 
+// `min` and `max` stand here and below: plotters' names on both types, each of one line.
 impl RelativeSize {
     /// The same share, at least `min_sz` pixels.
     pub fn min(self, min_sz: i32) -> RelativeSizeWithBound
@@ -121,7 +122,7 @@ pub trait AsRelative: Copy {
     // the number as an f64
     ghost number: { Self → Float };
 
-    /// A hundredth of the number.
+    /// A hundredth of the number. Each percent below is one line over it, by plotters' names.
     fn share(self) -> f64
         ensures { result ≡ hundredth (number self) };
 

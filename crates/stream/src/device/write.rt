@@ -75,7 +75,6 @@ impl<'a> StreamDevice<'a> {
         Ok(())
     }
 
-    // Writes a mark, or answers why it does not.
     // Writes a mark's bytes, or refuses it by name; `put` answers the name's number.
     fn write(&mut self, mark: Mark) -> Result<(), PutRefusal>
         ensures put { Put (streamed self.old) (mark_of mark.entry) (numbered result) (streamed self.new) }
@@ -89,6 +88,7 @@ impl<'a> StreamDevice<'a> {
                 }
                 self.append(&text_head(&lettering, bytes.len() as u8), bytes)
             }
+            // an end is the byte of its kind
             Shape::End => self.append(&[3], &[]),
         }
     }

@@ -46,3 +46,10 @@ impl<X: Ranged, H: KeyPointHint> Iterator for KeyPoints<X, H> {
         value
     }
 }
+
+/// How many are left.
+impl<X: Ranged, H: KeyPointHint> ExactSizeIterator for KeyPoints<X, H> {
+    fn len(&self) -> usize {
+        self.count - self.at
+    }
+}

@@ -1,10 +1,11 @@
 -- A list of marks in two slices, and the device that it is.
-use Rattle.std.specs.Prelude.{ℕ, ◌+◌, ◌-◌, ◌*◌, ◌/◌, Bool, cond, ◌&&◌, List, map, length, take, Some, None, Option, ◌==◌, nat_le, nat_lt, slice_set, sum_by}
+use Rattle.std.specs.Prelude.{◌≡◌, ℕ, ◌+◌, ◌-◌, ◌*◌, ◌/◌, ◌<◌, ◌≤◌, Bool, cond, ◌&&◌, List, map, length, take, Some, None, Option, ◌==◌, nat_le, nat_lt, slice_set, sum_by, refl}
 use Rattle.std.proofs.Common.{mul-le-mul, div-le_self, arith}
 use Rattle.std.proofs.lemmas.Bool.Decides.{nat_tests}
 use Rattle.std.specs.Borrow.{GName}
 use Rattle.std.specs.List.{list_all}
 use Rattle.std.specs.Option.{option_map}
+use Rattle.std.specs.Option as options
 use Rattle.backend.specs.declared.shape.Shape.{Shape}
 use Rattle.backend.specs.Marks.{SMark, line, text, end}
 use Rattle.backend.specs.Devices.{Answers, Bounded, Extents, Model}
@@ -69,8 +70,12 @@ is_all_printable bs = list_all (λ b. nat_le 32 b && nat_le b 126) bs
 abbrev pub sized : Extents
 sized bs f = cond (nat_le (length bs) 64 && is_all_printable bs) (Some (length bs * f / 2, f)) None
 
+small : (n f : ℕ) (a b : Bool) → nat_le n 64 ≡ a → f < 256 →
+    options.MatchOption {T = ℕ × ℕ} (cond (a && b) (Some (n * f / 2, f)) None) (Unit {0}) (λ p. (p.0 ≤ 30000) × (p.1 ≤ 30000))
+small n f a b e lt = grind (arith, nat_tests, mul-le-mul, div-le_self)
+
 pub sized_bounded : Bounded sized
-sized_bounded t f lt = grind (arith, nat_tests, mul-le-mul, div-le_self)
+sized_bounded t f lt = small (length t) f (nat_le (length t) 64) (is_all_printable t) refl lt
 
 abbrev pub list_model : Held → List GName → Model
 list_model h place = record { marks = marks_of h; answer = answers_of h; extent = sized; bounded = sized_bounded; place = place }

@@ -21,6 +21,11 @@ pub(crate) fn write_marked<I: Integer>(
     let digits = buffer.format(number).as_bytes();
     let end = mark.len() + digits.len();
     out[..mark.len()].copy_from_slice(mark);
+    // A digit alone is written by itself, since a copy of one byte takes longer.
+    if let [digit] = digits {
+        out[mark.len()] = *digit;
+        return Ok(end);
+    }
     out[mark.len()..end].copy_from_slice(digits);
     Ok(end)
 }

@@ -65,10 +65,10 @@ fn keys(heap: Global, words: &mut Words<'_>) -> Result<String, Fault> {
     let hint = BoldPoints(words.number::<usize>()?);
     let (_, axis) = axis(words)?;
     words.done()?;
-    let axis = axis?;
-    let count = axis.key_count(hint);
+    let points = key_points(axis?, hint);
+    let count = points.len();
     let mut text = format!(in heap; "{count}")?;
-    for value in key_points(axis, hint) {
+    for value in points {
         push_label(&mut text, value)?;
     }
     Ok(text)

@@ -3,7 +3,7 @@ ghost use Rattle.replay.specs.Lines.{Takes, left};
 
 use crate::fault::Unread;
 use size::kinds::Size;
-use size::relative::{RelativeSize, RelativeSizeWithBound};
+use size::relative::RelativeSize;
 use std::str::FromStr;
 
 /// The words of a line that are still to be read.
@@ -110,11 +110,18 @@ impl<'a> Words<'a> {
         }
     }
 
-    // The share with the bounds that follow it, of which a later one replaces an earlier.
+    // The share with the bounds that follow it, of which a later one replaces an earlier; where none follows, the share itself.
     fn bounded(&mut self, share: RelativeSize) -> Result<Size, Unread>
-        ensures { OnOk result (left self.new ≤ left self.old) }
+        ensures taken { OnOk result (left self.new ≤ left self.old) }
+        ensures alone { IfOk result (λ size. left self.new ≡ left self.old → size ≡ Size.Relative share) }
     {
-        let mut size = RelativeSizeWithBound::from(share);
+        let Some(first) = self.bound()? else {
+            return Ok(Size::Relative(share));
+        };
+        let mut size = match first {
+            Bound::Min(n) => share.min(n),
+            Bound::Max(n) => share.max(n),
+        };
         while let Some(bound) = self.bound()? {
             size = match bound {
                 Bound::Min(n) => size.min(n),

@@ -64,7 +64,20 @@ impl Side {
         ensures { AreSides self.from (self.from +ℤ at) self.to result }
     {
         let middle = self.from + at.pixels;
-        Ok((Side::new(self.from, middle)?, Side::new(middle, self.to)?))
+        // between the ends of a side both parts are sides, so one test serves for both
+        if middle < self.from || self.to < middle {
+            return Err(Refusal::NoArea);
+        }
+        Ok((
+            Side {
+                from: self.from,
+                to: middle,
+            },
+            Side {
+                from: middle,
+                to: self.to,
+            },
+        ))
     }
 }
 
